@@ -1,0 +1,4 @@
+pub mod Slots
+pub mod States
+pub mod Chains
+pub mod Sets

@@ -1,0 +1,3 @@
+// Kinds of records that programs keep in a map.
+pub mod currency;
+pub mod starter;

@@ -1,0 +1,4 @@
+pub mod Finding
+pub mod Sharing
+pub mod Inserting
+pub mod Keeping
