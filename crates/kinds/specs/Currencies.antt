@@ -8,16 +8,16 @@ use Rattle.kinds.specs.declared.currency.Number.{Number}
 use Rattle.kinds.specs.declared.currency.Currency.{Currency}
 
 -- one of the three letters, by its place
-abbrev pub letter : Letters → ℕ → ℕ
-letter letters place = getD (letters .bytes) place 0
+abbrev pub code-at : Letters → ℕ → ℕ
+code-at l place = getD (l .bytes) place 0
 
 -- each letter is the same
 abbrev pub same-letters : Letters → Letters → Bool
-same-letters a b = eqb (letter a 0) (letter b 0) && (eqb (letter a 1) (letter b 1) && eqb (letter a 2) (letter b 2))
+same-letters a b = eqb (code-at a 0) (code-at b 0) && (eqb (code-at a 1) (code-at b 1) && eqb (code-at a 2) (code-at b 2))
 
 -- the letters as the digits of a number to the base 256, the first the highest
 abbrev pub letters-word : Letters → ℕ
-letters-word letters = letter letters 0 * 65536 + letter letters 1 * 256 + letter letters 2
+letters-word l = code-at l 0 * 65536 + code-at l 1 * 256 + code-at l 2
 
 abbrev pub same-number : Number → Number → Bool
 same-number a b = eqb (a .value) (b .value)
