@@ -5,6 +5,9 @@ ghost use mathlib.Core.Path.{_≡_};
 ghost use Rattle.hashing.specs.declared.Words.{Words as Hashed};
 use hashing::Words;
 
+pub mod comparable;
+pub mod crossed;
+pub mod predicate;
 pub mod side;
 
 // A kind of key: when two keys are equal, and what is hashed of one.

@@ -15,11 +15,11 @@ use Rattle.item_set.specs.declared.slot.ItemSlot.{ItemSlot}
 use Rattle.item_set.specs.declared.slot.ItemSlot.the-variants.{Occupied, Vacant}
 use Rattle.item_set.specs.declared.set.ItemSet.{ItemSet}
 use Rattle.item_set.specs.Slots.{at, held, next, weigh, tally, anyone}
-use Rattle.item_set.specs.States.{State, standing, appended, filled, taken, takes, granted, freed, freeing}
+use Rattle.item_set.specs.States.{State, standing, appended, filled, taken, takes, granted, freed, freeing, exchanged, swapping}
 use Rattle.item_set.specs.Chains.{Linked}
 use Rattle.item_set.specs.Sets.{meaning, Ready}
 use Rattle.item_set.proofs.Tally.{tally-set}
-use Rattle.item_set.proofs.Links.{taking, linked-freed}
+use Rattle.item_set.proofs.Links.{taking, linked-freed, linked-exchanged}
 
 module _ {R : Type 0} where
   pub granted-end : (s : State R) (ys : List (ItemSlot R)) (v : R) (n : ℕ) → s .head ≡ sentinel → n ≡ length (s .slots) → ys ≡ s .slots ++ Occupied v ∷ [] → _≡_ {A = Option ℕ × State R} (Some n, record { slots = ys; head = s .head; capacity = s .capacity }) (granted s v)
@@ -30,6 +30,9 @@ module _ {R : Type 0} where
 
   pub freed-at : (s : State R) (ys : List (ItemSlot R)) (i : ℕ) (r : R) → held (at (s .slots) i) ≡ Some r → ys ≡ set (s .slots) i (Vacant (s .head)) → _≡_ {A = Option R × State R} (Some r, record { slots = ys; head = i; capacity = s .capacity }) (freeing s i (held (at (s .slots) i)))
   freed-at s ys i r e ey = rw (e, ey)
+
+  pub exchanged-at : (s : State R) (ys : List (ItemSlot R)) (i : ℕ) (r v : R) → held (at (s .slots) i) ≡ Some r → ys ≡ set (s .slots) i (Occupied v) → _≡_ {A = Option R × State R} (Some r, record { slots = ys; head = s .head; capacity = s .capacity }) (swapping s i v (held (at (s .slots) i)))
+  exchanged-at s ys i r v e ey = rw (e, ey)
 
 module _ {T M : Type 0} (m : memory.Ghosts M (ItemSlot T)) where
   -- one record more
@@ -52,4 +55,15 @@ module _ {T M : Type 0} (m : memory.Ghosts M (ItemSlot T)) where
       record
         { linked = subst Linked (sym q) (linked-freed (meaning m s) i r l a (w .linked))
         ; counted = omega (arith, w .counted, tally-set anyone (m .items (s .items)) i (Vacant (s .«free_head»)) l)
+        ; room = omega (arith, w .room) }
+
+  -- another record in a slot
+  pub ready-exchanged : (s t : ItemSet T M) (i : ℕ) (r v : T) → Ready m s → i < length (m .items (s .items)) → at (m .items (s .items)) i ≡ Occupied r → meaning m t ≡ exchanged (meaning m s) i v → t .len ≡ s .len → m .room (t .items) ≡ m .room (s .items) → Ready m t
+  ready-exchanged s t i r v w l a q en er =
+      let c : t .capacity ≡ s .capacity = ap (λ x. x .capacity) q in
+      let n = ap standing q in
+      let h : weigh anyone (at (m .items (s .items)) i) ≡ 1 = ap (weigh anyone) a in
+      record
+        { linked = subst Linked (sym q) (linked-exchanged (meaning m s) i r v l a (w .linked))
+        ; counted = omega (arith, w .counted, tally-set anyone (m .items (s .items)) i (Occupied v) l)
         ; room = omega (arith, w .room) }

@@ -13,7 +13,7 @@ use Rattle.base.specs.Counting.{sentinel, one}
 use Rattle.item_set.specs.declared.slot.ItemSlot.{ItemSlot}
 use Rattle.item_set.specs.declared.slot.ItemSlot.the-variants.{Occupied, Vacant}
 use Rattle.item_set.specs.Slots.{at, next, weigh, tally, anyone}
-use Rattle.item_set.specs.States.{State, standing, freed, appended, filled, taken, takes}
+use Rattle.item_set.specs.States.{State, standing, freed, exchanged, appended, filled, taken, takes}
 use Rattle.item_set.specs.Chains.{Avoids, Chain, Linked}
 use Rattle.item_set.proofs.Tally.{tally-set, tally-push}
 
@@ -131,3 +131,15 @@ module _ {R : Type 0} where
       go : (b : Bool) → cond b (appended s v) (filled s v) .capacity ≡ s .capacity
       go true = refl
       go false = refl
+
+  -- another record in a standing record's slot
+  pub linked-exchanged : (s : State R) (i : ℕ) (r v : R) → i < length (s .slots) → at (s .slots) i ≡ Occupied r → Linked s → Linked (exchanged s i v)
+  linked-exchanged s i r v l a k =
+      let w : weigh anyone (at (s .slots) i) ≡ 1 = ap (weigh anyone) a in
+      record {
+        free = k .free;
+        chain = chain-set (s .slots) i (Occupied v) (s .head) (k .free) (chain-avoids (s .slots) i r (s .head) (k .free) a (k .chain)) (k .chain);
+        whole = simp length-set (omega (arith, k .whole, tally-set anyone (s .slots) i (Occupied v) l));
+        within = simp length-set (k .within);
+        small = k .small;
+      }

@@ -42,6 +42,10 @@ takes s = cond (eqb (s .head) sentinel) (length (s .slots)) (s .head)
 abbrev pub freed : {R : Type 0} → State R → ℕ → State R
 freed s i = record { slots = set (s .slots) i (Vacant (s .head)); head = i; capacity = s .capacity }
 
+-- another record in a slot
+abbrev pub exchanged : {R : Type 0} → State R → ℕ → R → State R
+exchanged s i r = record { slots = set (s .slots) i (Occupied r); head = s .head; capacity = s .capacity }
+
 -- what putting a record in comes to where there is room
 abbrev pub granted : {R : Type 0} → State R → R → Option ℕ × State R
 granted s r = (Some (takes s), taken s r)
@@ -57,3 +61,11 @@ freeing s i (Some r) = (Some r, freed s i)
 
 abbrev pub removing : {R : Type 0} → State R → ℕ → Option R × State R
 removing s i = freeing s i (held (at (s .slots) i))
+
+-- what exchanging the record in a slot comes to
+abbrev pub swapping : {R : Type 0} → State R → ℕ → R → Option R → Option R × State R
+swapping s i v None = (None, s)
+swapping s i v (Some r) = (Some r, exchanged s i v)
+
+abbrev pub replacing : {R : Type 0} → State R → ℕ → R → Option R × State R
+replacing s i v = swapping s i v (held (at (s .slots) i))

@@ -1,9 +1,10 @@
 // The set of slots.
 ghost use Prim.Native.Nat.{min, _+_, _≤_};
+ghost use lib.ListN.{length};
 ghost use mathlib.Core.Path.{_≡_};
 ghost use Rattle.item_set.specs.Sets.{meaning, Ready};
 ghost use Rattle.item_set.specs.Slots.{at, held, next};
-ghost use Rattle.item_set.specs.States.{fresh, standing, granted, growing, removing};
+ghost use Rattle.item_set.specs.States.{fresh, standing, granted, growing, removing, replacing};
 use crate::slot::ItemSlot;
 use base::SENTINEL;
 use memory::Memory;
@@ -45,6 +46,14 @@ impl<T: Copy, M: Memory<ItemSlot<T>>> ItemSet<T, M> {
         ensures { λ r. ⌜ r ≡ meaning M·Memory (now (self .entry)) .capacity ⌝ }
     {
         self.capacity
+    }
+
+    // How many slots there are, vacant ones too.
+    pub fn slots(&self) -> u32
+        ensures { λ r. ⌜ (Ready M·Memory (now (self .entry)) → r ≡ length (meaning M·Memory (now (self .entry)) .slots)) ⌝ }
+    {
+        let slots = self.items.len();
+        if slots < MOST { slots as u32 } else { MOST as u32 }
     }
 
     // A slot; past the slots a vacant one.
@@ -141,6 +150,20 @@ impl<T: Copy, M: Memory<ItemSlot<T>>> ItemSet<T, M> {
         };
         self.free_head = slot;
         self.len = self.len.saturating_sub(1);
+        Some(record)
+    }
+
+    // Exchanges the record in a slot. None, and nothing done, where none stands there.
+    pub fn replace(&mut self, slot: u32, replacement: T) -> Option<T>
+        ensures ready { λ _. ⌜ (Ready M·Memory (now (self .entry)) → Ready M·Memory (now (self .exit))) ⌝ }
+        ensures step { λ r. ⌜ (r, meaning M·Memory (now (self .exit))) ≡ replacing (meaning M·Memory (now (self .entry))) slot replacement ⌝ }
+    {
+        let Some(record) = self.get(slot) else {
+            return None;
+        };
+        let Ok(()) = self.items.write(slot as usize, ItemSlot::Occupied(replacement)) else {
+            return None;
+        };
         Some(record)
     }
 }

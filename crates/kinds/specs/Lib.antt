@@ -1,2 +1,4 @@
+pub mod Coins
+pub mod Comparing
 pub mod Currencies
 pub mod Starter

@@ -1,10 +1,12 @@
 // A currency, known by its three letters and by its number.
 ghost use mathlib.Core.Path.{_≡_};
 ghost use Rattle.hashing.specs.declared.Words.the-variants.{One};
+ghost use Rattle.kinds.specs.Comparing.{alike-currencies};
 ghost use Rattle.kinds.specs.Currencies.{same-letters, letters-word, same-number, number-of};
 use hashing::Words;
 use item::BiHashItem;
 use item::Key;
+use item::comparable::Comparable;
 
 // The three letters of a currency's code, each as a byte. Any bytes make a key.
 #[derive(Clone, Copy)]
@@ -69,5 +71,15 @@ pub impl BiHashItem for Currency as CurrencyItem {
 
     fn key2(&self) -> Number {
         Number { value: self.number }
+    }
+}
+
+pub impl Comparable for Currency as CurrencyComparable {
+    ghost alike = { alike-currencies };
+
+    fn is_alike(&self, other: &Currency) -> bool {
+        self.number == other.number
+            && self.minor_unit == other.minor_unit
+            && self.letters.equals(&other.letters)
     }
 }

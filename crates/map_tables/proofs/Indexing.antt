@@ -7,16 +7,16 @@ use native.Mathlib.Omega.{arith}
 use native.Mathlib.Nat.{not-suc-le-zero, add-zero, zero-add}
 use lib.Dec.{eqb}
 use lib.ListN.{length, set}
-use Rattle.std.proofs.shelf.Tests.{eqb-false, ne-eqb, cond-false}
+use Rattle.std.proofs.shelf.Tests.{eqb-false, eq-eqb, ne-eqb, cond-false, and-from}
 use Rattle.base.specs.Counting.{sentinel, one, times, Same}
 use Rattle.base.proofs.Counts.{times-all}
 use Rattle.hash_table.specs.declared.HashTable as table
-use Rattle.hash_table.specs.Pairs.{adding}
+use Rattle.hash_table.specs.Pairs.{is-pair, adding, removing}
 use Rattle.item_set.specs.declared.slot.ItemSlot.{ItemSlot}
 use Rattle.item_set.specs.declared.slot.ItemSlot.the-variants.{Occupied, Vacant}
 use Rattle.item_set.specs.Chains.{Linked}
 use Rattle.item_set.specs.Slots.{at, tally, anyone}
-use Rattle.item_set.specs.States.{State, standing, taken, takes}
+use Rattle.item_set.specs.States.{State, standing, taken, takes, freed, exchanged}
 use Rattle.item_set.proofs.Links.{head-vacant, same-capacity}
 use Rattle.memory.specs.declared.StorageRefusal.{StorageRefusal}
 use Rattle.memory.specs.Refusals.{number}
@@ -92,3 +92,32 @@ module _ {R A : Type 0} (a : table.Ghosts A) (hash : R → ℕ) where
   never-full s t e x l q =
       let ne : eqb (length (a .pairs t)) (a .room t) ≡ false = ne-eqb _ _ (λ w. omega (arith, indexed-long s t x, x .room)) in
       refused e (q ∙ cond-false (eqb (length (a .pairs t)) (a .room t)) 8 0 ne)
+
+  -- a record is taken out
+  pub indexed-freed : (s : State R) (t t′ : A) (r : R) (h slot : ℕ) → slot < length (s .slots) → at (s .slots) slot ≡ Occupied r → Indexed a hash s t → h ≡ hash r → a .ok t′ → a .room t′ ≡ a .room t → Same (a .pairs t) ((h, slot) ∷ a .pairs t′) → Indexed a hash (freed s slot) t′
+  indexed-freed s t t′ r h slot l o x eh ok er same = record
+      { ok = ok
+      ; pairs = λ q.
+          let d = due-set hash q 0 (s .slots) slot (Vacant (s .head)) l in
+          let d′ = rw (zero-add slot) at d in
+          let w : share hash q slot (at (s .slots) slot) ≡ one (q (hash r, slot)) = ap (share hash q slot) o in
+          omega (arith, d′, w, same q, x .pairs q, ap (λ n. one (q (n, slot))) eh)
+      ; room = omega (arith, x .room) }
+
+  -- the pair of a standing record is there
+  pub never-missing : (s : State R) (t : A) (r : R) (h slot : ℕ) (e : StorageRefusal) → slot < length (s .slots) → at (s .slots) slot ≡ Occupied r → Indexed a hash s t → h ≡ hash r → number e ≡ removing (a .pairs t) h slot → ⊥
+  never-missing s t r h slot e l o x eh q =
+      let there = due-there hash (is-pair h slot) (s .slots) slot r l o (and-from (eqb (hash r) h) (eqb slot slot) (eq-eqb _ _ (sym eh)) (eq-eqb slot slot refl)) in
+      let ne : eqb (times (is-pair h slot) (a .pairs t)) 0 ≡ false = ne-eqb _ _ (λ z. omega (arith, z, x .pairs (is-pair h slot))) in
+      refused e (q ∙ cond-false (eqb (times (is-pair h slot) (a .pairs t)) 0) 10 0 ne)
+
+  -- another record with the same hash in its slot
+  pub indexed-exchanged : (s : State R) (t : A) (r v : R) (slot : ℕ) → slot < length (s .slots) → at (s .slots) slot ≡ Occupied r → hash v ≡ hash r → Indexed a hash s t → Indexed a hash (exchanged s slot v) t
+  indexed-exchanged s t r v slot l o e x = record
+      { ok = x .ok
+      ; pairs = λ q.
+          let d = due-set hash q 0 (s .slots) slot (Occupied v) l in
+          let d′ = rw (zero-add slot) at d in
+          let w : share hash q slot (at (s .slots) slot) ≡ one (q (hash r, slot)) = ap (share hash q slot) o in
+          omega (arith, d′, w, x .pairs q, ap (λ n. one (q (n, slot))) e)
+      ; room = x .room }

@@ -3,7 +3,7 @@ ghost use Prim.Native.Nat.{ℕ};
 ghost use mathlib.Core.List.{[], _∷_};
 ghost use mathlib.Core.Path.{_≡_};
 ghost use Rattle.base.specs.Counting.{Same};
-ghost use Rattle.hash_table.specs.Pairs.{adding};
+ghost use Rattle.hash_table.specs.Pairs.{adding, removing};
 ghost use Rattle.item_set.specs.Sets.{meaning};
 ghost use Rattle.map_tables.specs.Due.{key-hash, Searchable};
 ghost use Rattle.memory.specs.Refusals.{code};
@@ -76,6 +76,16 @@ impl<A: HashTable> MapHashTable<A> {
         ensures pairs { λ r. ⌜ (A·HashTable .ok (now (self .entry) .items) → Cases r (λ _. Same (A·HashTable .pairs (now (self .exit) .items)) ((hash, slot) ∷ A·HashTable .pairs (now (self .entry) .items))) (λ _. A·HashTable .pairs (now (self .exit) .items) ≡ A·HashTable .pairs (now (self .entry) .items))) ⌝ }
     {
         self.items.add(hash, slot)
+    }
+
+    // Takes a slot out that stands under the hash.
+    pub fn remove_prehashed(&mut self, hash: u64, slot: u32) -> Result<(), StorageRefusal>
+        ensures room { λ _. ⌜ A·HashTable .room (now (self .exit) .items) ≡ A·HashTable .room (now (self .entry) .items) ⌝ }
+        ensures ok { λ _. ⌜ (A·HashTable .ok (now (self .entry) .items) → A·HashTable .ok (now (self .exit) .items)) ⌝ }
+        ensures code { λ r. ⌜ (A·HashTable .ok (now (self .entry) .items) → code r ≡ removing (A·HashTable .pairs (now (self .entry) .items)) hash slot) ⌝ }
+        ensures pairs { λ r. ⌜ (A·HashTable .ok (now (self .entry) .items) → Cases r (λ _. Same (A·HashTable .pairs (now (self .entry) .items)) ((hash, slot) ∷ A·HashTable .pairs (now (self .exit) .items))) (λ _. A·HashTable .pairs (now (self .exit) .items) ≡ A·HashTable .pairs (now (self .entry) .items))) ⌝ }
+    {
+        self.items.remove(hash, slot)
     }
 }
 

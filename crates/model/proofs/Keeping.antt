@@ -4,14 +4,16 @@ use mathlib.Core.Bool.{Bool, true, false}
 use mathlib.Core.List.{List}
 use Prim.Native.Nat.{ℕ, _+_, _≤_, _<_}
 use native.Mathlib.Omega.{arith}
-use Rattle.std.proofs.shelf.Tests.{or-left, or-right}
+use lib.ListN.{length}
+use Rattle.std.proofs.shelf.Tests.{or-left, or-right, both-ways}
 use Rattle.base.specs.Counting.{one}
 use Rattle.item.specs.Kinds.{Kind}
 use Rattle.item_set.specs.declared.slot.ItemSlot.{ItemSlot}
-use Rattle.item_set.specs.Slots.{tally}
-use Rattle.item_set.specs.States.{State, standing, taken}
-use Rattle.item_set.proofs.Links.{taking}
-use Rattle.item_set.proofs.Tally.{tally-mono}
+use Rattle.item_set.specs.declared.slot.ItemSlot.the-variants.{Occupied, Vacant}
+use Rattle.item_set.specs.Slots.{at, weigh, tally}
+use Rattle.item_set.specs.States.{State, standing, taken, freed, exchanged}
+use Rattle.item_set.proofs.Links.{taking, linked-freed, linked-exchanged}
+use Rattle.item_set.proofs.Tally.{tally-mono, tally-set}
 use Rattle.model.specs.Model.{has, has1, has2, shares, WellFormed}
 
 -- a key still finds at most one slot when a record comes in whose own key found none
@@ -45,3 +47,44 @@ module _ {R K1 K2 : Type 0} (kind : Kind R K1 K2)
             (omega (arith, tally-mono p (shares kind r) (λ x e. or-left (p x) (q x) e) (s .slots))) (w .once1)
         ; once2 = once-taken (kind .key2) (kind .same2) symmetric2 transitive2 (s .slots) (taken s r .slots) r (k .counts)
             (omega (arith, tally-mono q (shares kind r) (λ x e. or-right (p x) (q x) e) (s .slots))) (w .once2) }
+
+-- a slot is freed
+module _ {R K1 K2 : Type 0} (kind : Kind R K1 K2) where
+  pub tally-freed : (q : R → Bool) (s : State R) (i : ℕ) → i < length (s .slots) → tally q (freed s i .slots) ≤ tally q (s .slots)
+  tally-freed q s i l = omega (arith, tally-set q (s .slots) i (Vacant (s .head)) l)
+
+  pub well-freed : (s : State R) (i : ℕ) (r : R) → i < length (s .slots) → at (s .slots) i ≡ Occupied r → WellFormed kind s → WellFormed kind (freed s i)
+  well-freed s i r l a w = record
+      { linked = linked-freed s i r l a (w .linked)
+      ; once1 = λ k. omega (arith, tally-freed (has1 kind k) s i l, w .once1 k)
+      ; once2 = λ k. omega (arith, tally-freed (has2 kind k) s i l, w .once2 k) }
+
+-- another record with equal keys is put into a slot
+module _ {R K : Type 0} (key : R → K) (same : K → K → Bool)
+    (symmetric : (a b : K) → same a b ≡ true → same b a ≡ true)
+    (transitive : (a b c : K) → same a b ≡ true → same b c ≡ true → same a c ≡ true) where
+
+  has-alike : (k : K) (r v : R) → same (key v) (key r) ≡ true → has key same k v ≡ has key same k r
+  has-alike k r v e = go (has key same k v) (has key same k r) refl refl
+    where
+      go : (b c : Bool) → has key same k v ≡ b → has key same k r ≡ c → has key same k v ≡ has key same k r
+      go true c eb ec = eb ∙ sym (transitive k (key v) (key r) eb e)
+      go false true eb ec = absurd (both-ways (has key same k v) eb (transitive k (key r) (key v) ec (symmetric (key v) (key r) e)))
+      go false false eb ec = eb ∙ sym ec
+
+  once-exchanged : (s : State R) (i : ℕ) (r v : R) → i < length (s .slots) → at (s .slots) i ≡ Occupied r → same (key v) (key r) ≡ true → ((k : K) → tally (has key same k) (s .slots) ≤ 1) → (k : K) → tally (has key same k) (exchanged s i v .slots) ≤ 1
+  once-exchanged s i r v l a e few k =
+      let w : weigh (has key same k) (at (s .slots) i) ≡ one (has key same k r) = ap (weigh (has key same k)) a in
+      omega (arith, w, few k, tally-set (has key same k) (s .slots) i (Occupied v) l, ap one (has-alike k r v e))
+
+module _ {R K1 K2 : Type 0} (kind : Kind R K1 K2)
+    (symmetric1 : (a b : K1) → kind .same1 a b ≡ true → kind .same1 b a ≡ true)
+    (transitive1 : (a b c : K1) → kind .same1 a b ≡ true → kind .same1 b c ≡ true → kind .same1 a c ≡ true)
+    (symmetric2 : (a b : K2) → kind .same2 a b ≡ true → kind .same2 b a ≡ true)
+    (transitive2 : (a b c : K2) → kind .same2 a b ≡ true → kind .same2 b c ≡ true → kind .same2 a c ≡ true) where
+
+  pub well-exchanged : (s : State R) (i : ℕ) (r v : R) → i < length (s .slots) → at (s .slots) i ≡ Occupied r → kind .same1 (kind .key1 v) (kind .key1 r) ≡ true → kind .same2 (kind .key2 v) (kind .key2 r) ≡ true → WellFormed kind s → WellFormed kind (exchanged s i v)
+  well-exchanged s i r v l a e f w = record
+      { linked = linked-exchanged s i r v l a (w .linked)
+      ; once1 = once-exchanged (kind .key1) (kind .same1) symmetric1 transitive1 s i r v l a e (w .once1)
+      ; once2 = once-exchanged (kind .key2) (kind .same2) symmetric2 transitive2 s i r v l a f (w .once2) }

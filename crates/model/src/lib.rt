@@ -21,6 +21,21 @@ pub struct DuplicateItem<T> {
     pub duplicates: Duplicates<T>,
 }
 
+// The standing records that a new one displaced: the match of its first key, then that of its second if another.
+#[derive(Clone, Copy)]
+pub enum Displaced<T> {
+    Nothing,
+    One(T),
+    Two(T, T),
+}
+
+// Where a new record went, and what it displaced.
+#[derive(Clone, Copy)]
+pub struct Overwritten<T> {
+    pub slot: u32,
+    pub displaced: Displaced<T>,
+}
+
 // What a caller of a map may be refused. Nothing is changed then.
 #[derive(Clone, Copy)]
 pub enum MapRefusal<T> {
