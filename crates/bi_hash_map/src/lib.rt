@@ -183,9 +183,9 @@ impl<T: BiHashItem, M: Memory<ItemSlot<T>>, A: HashTable, B: HashTable, H: WordH
         ensures sound { λ _. ⌜ (Sound T·BiHashItem K1·Key K2·Key M·Memory A·HashTable B·HashTable H·WordHash (now (self .entry)) → Sound T·BiHashItem K1·Key K2·Key M·Memory A·HashTable B·HashTable H·WordHash (now (self .exit))) ⌝ }
         ensures step { λ r. ⌜ (Sound T·BiHashItem K1·Key K2·Key M·Memory A·HashTable B·HashTable H·WordHash (now (self .entry)) → goes (map-state M·Memory (now (self .exit))) (looked r) ≡ step (kind-of T·BiHashItem K1·Key K2·Key) (map-state M·Memory (now (self .entry))) (removes1 (now (key .entry)))) ⌝ }
     {
-        let found = self.items.find1(key);
-        remove_found(&mut self.items, found);
-        answer(found)
+        let by_first = self.items.find1(key);
+        remove_found(&mut self.items, by_first);
+        answer(by_first)
     }
 
     // Takes out the record under a second key.
@@ -193,9 +193,9 @@ impl<T: BiHashItem, M: Memory<ItemSlot<T>>, A: HashTable, B: HashTable, H: WordH
         ensures sound { λ _. ⌜ (Sound T·BiHashItem K1·Key K2·Key M·Memory A·HashTable B·HashTable H·WordHash (now (self .entry)) → Sound T·BiHashItem K1·Key K2·Key M·Memory A·HashTable B·HashTable H·WordHash (now (self .exit))) ⌝ }
         ensures step { λ r. ⌜ (Sound T·BiHashItem K1·Key K2·Key M·Memory A·HashTable B·HashTable H·WordHash (now (self .entry)) → goes (map-state M·Memory (now (self .exit))) (looked r) ≡ step (kind-of T·BiHashItem K1·Key K2·Key) (map-state M·Memory (now (self .entry))) (removes2 (now (key .entry)))) ⌝ }
     {
-        let found = self.items.find2(key);
-        remove_found(&mut self.items, found);
-        answer(found)
+        let by_second = self.items.find2(key);
+        remove_found(&mut self.items, by_second);
+        answer(by_second)
     }
 
     // Takes out the record that has both keys.
@@ -203,9 +203,9 @@ impl<T: BiHashItem, M: Memory<ItemSlot<T>>, A: HashTable, B: HashTable, H: WordH
         ensures sound { λ _. ⌜ (Sound T·BiHashItem K1·Key K2·Key M·Memory A·HashTable B·HashTable H·WordHash (now (self .entry)) → Sound T·BiHashItem K1·Key K2·Key M·Memory A·HashTable B·HashTable H·WordHash (now (self .exit))) ⌝ }
         ensures step { λ r. ⌜ (Sound T·BiHashItem K1·Key K2·Key M·Memory A·HashTable B·HashTable H·WordHash (now (self .entry)) → goes (map-state M·Memory (now (self .exit))) (looked r) ≡ step (kind-of T·BiHashItem K1·Key K2·Key) (map-state M·Memory (now (self .entry))) (remove12 (now (key1 .entry)) (now (key2 .entry)))) ⌝ }
     {
-        let found = find_unique(&self.items, key1, key2);
-        remove_found(&mut self.items, found);
-        answer(found)
+        let by_both = find_unique(&self.items, key1, key2);
+        remove_found(&mut self.items, by_both);
+        answer(by_both)
     }
 
     // Takes out the records that a predicate refuses, by ascending slot, and says how many stand then.

@@ -13,8 +13,8 @@ returns g c =
     let before = map-state (g .M·Memory) (c .args .self .now) in
     let p = has1 kind (c .args .key .now) in
     record
-      { sound = λ s. c .remove-found .ensures .sound s (standing-found p before before _ refl (c .find1-found .ensures s))
+      { sound = λ s. c .remove-found .ensures .sound s (standing-found p before before _ refl (c .find1-by-first .ensures s))
       ; step = λ s.
-          ap (λ t. goes t (looked (c .answer .result))) (c .remove-found .ensures .state s (standing-found p before before _ refl (c .find1-found .ensures s)))
-          ∙ ap (goes (freed-at before (c .find1-found .result))) (c .answer .ensures)
-          ∙ ap (λ o. goes (freed-at before o) (seen o)) (c .find1-found .ensures s) }
+          ap (λ t. goes t (looked (c .answer .result))) (c .remove-found .ensures .state s (standing-found p before before _ refl (c .find1-by-first .ensures s)))
+          ∙ ap (goes (freed-at before (c .find1-by-first .result))) (c .answer .ensures)
+          ∙ ap (λ o. goes (freed-at before o) (seen o)) (c .find1-by-first .ensures s) }

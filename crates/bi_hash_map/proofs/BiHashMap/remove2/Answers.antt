@@ -13,8 +13,8 @@ returns g c =
     let before = map-state (g .M·Memory) (c .args .self .now) in
     let p = has2 kind (c .args .key .now) in
     record
-      { sound = λ s. c .remove-found .ensures .sound s (standing-found p before before _ refl (c .find2-found .ensures s))
+      { sound = λ s. c .remove-found .ensures .sound s (standing-found p before before _ refl (c .find2-by-second .ensures s))
       ; step = λ s.
-          ap (λ t. goes t (looked (c .answer .result))) (c .remove-found .ensures .state s (standing-found p before before _ refl (c .find2-found .ensures s)))
-          ∙ ap (goes (freed-at before (c .find2-found .result))) (c .answer .ensures)
-          ∙ ap (λ o. goes (freed-at before o) (seen o)) (c .find2-found .ensures s) }
+          ap (λ t. goes t (looked (c .answer .result))) (c .remove-found .ensures .state s (standing-found p before before _ refl (c .find2-by-second .ensures s)))
+          ∙ ap (goes (freed-at before (c .find2-by-second .result))) (c .answer .ensures)
+          ∙ ap (λ o. goes (freed-at before o) (seen o)) (c .find2-by-second .ensures s) }

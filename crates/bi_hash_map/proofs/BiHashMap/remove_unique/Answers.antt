@@ -13,8 +13,8 @@ returns g c =
     let before = map-state (g .M·Memory) (c .args .self .now) in
     let p = both (has1 kind (c .args .key1 .now)) (has2 kind (c .args .key2 .now)) in
     record
-      { sound = λ s. c .remove-found .ensures .sound s (standing-found p before before _ refl (c .find-unique-found .ensures s))
+      { sound = λ s. c .remove-found .ensures .sound s (standing-found p before before _ refl (c .find-unique-by-both .ensures s))
       ; step = λ s.
-          ap (λ t. goes t (looked (c .answer .result))) (c .remove-found .ensures .state s (standing-found p before before _ refl (c .find-unique-found .ensures s)))
-          ∙ ap (goes (freed-at before (c .find-unique-found .result))) (c .answer .ensures)
-          ∙ ap (λ o. goes (freed-at before o) (seen o)) (c .find-unique-found .ensures s) }
+          ap (λ t. goes t (looked (c .answer .result))) (c .remove-found .ensures .state s (standing-found p before before _ refl (c .find-unique-by-both .ensures s)))
+          ∙ ap (goes (freed-at before (c .find-unique-by-both .result))) (c .answer .ensures)
+          ∙ ap (λ o. goes (freed-at before o) (seen o)) (c .find-unique-by-both .ensures s) }
