@@ -29,7 +29,7 @@ pub(crate) fn put<M: Memory<HashedIndex>>(memory: &mut M, place: usize, cell: Ha
 }
 
 // Where a slot goes: a list that ends before it has no place for it.
-pub(crate) fn new_place(places: &[u32], slot: u32) -> u32
+pub fn new_place(places: &[u32], slot: u32) -> u32
     ensures { λ r. ⌜ r ≡ new-slot (now (places .entry)) slot ⌝ }
 {
     let i = slot as usize;

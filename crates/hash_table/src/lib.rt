@@ -10,7 +10,7 @@ ghost use Rattle.memory.specs.Refusals.{code};
 ghost use Rattle.std.specs.Results.{Cases};
 use memory::StorageRefusal;
 
-mod cells;
+pub mod cells;
 pub mod index;
 pub mod linear;
 

@@ -4,9 +4,6 @@ use bi_hash_map::BiHashMap;
 use field_service::ReadBack;
 use field_service::insert_all;
 use field_service::read_back;
-use hash_table::index::HashedIndex;
-use hash_table::linear::LinearHashTable;
-use hash_table::linear::LinearTable;
 use hashing::fnv::Fnv1a;
 use hashing::fnv::Fnv1aWordHash;
 use item_set::slot::ItemSlot;
@@ -18,6 +15,10 @@ use kinds::starter::starter_list;
 use memory::lent::Lent;
 use memory::lent::LentMemory;
 use model::Found;
+use pair_block::PairBlock;
+use pair_block::PairBlockMemory;
+use probing_table::ProbingHashTable;
+use probing_table::ProbingTable;
 use std::fmt;
 use std::io;
 
@@ -58,18 +59,16 @@ fn report(rt: &impl Print, back: &ReadBack<Currency>) -> io::Result<()> {
     println!(rt, "{a}{b}{c} {number:03} {unit}: {first} by letters, {second} by number, {verdict}")
 }
 
-fn main(rt: LibcRuntime) -> io::Result<()> {
+// Takes rows into a map and reports each as it is read back, then the totals. The tables probe, in blocks of their own.
+fn read_back_all(rt: &impl Print, rows: &[Currency]) -> io::Result<()> {
     let mut slots = [ItemSlot::Vacant(SENTINEL); 16];
-    let mut first = [HashedIndex::EMPTY; 16];
-    let mut second = [HashedIndex::EMPTY; 16];
-    let rows = starter_list();
-    let mut map: BiHashMap<Currency, Lent<ItemSlot<Currency>>, LinearTable<Lent<HashedIndex>>, LinearTable<Lent<HashedIndex>>, Fnv1a> =
-        BiHashMap::new(16, Lent::new(&mut slots), LinearTable::new(Lent::new(&mut first)), LinearTable::new(Lent::new(&mut second)), Fnv1a);
-    insert_all(&mut map, &rows);
+    let mut map: BiHashMap<Currency, Lent<ItemSlot<Currency>>, ProbingTable<PairBlock>, ProbingTable<PairBlock>, Fnv1a> =
+        BiHashMap::new(16, Lent::new(&mut slots), ProbingTable::new(PairBlock::new()), ProbingTable::new(PairBlock::new()), Fnv1a);
+    insert_all(&mut map, rows);
     let mut same = 0u32;
-    for row in &rows {
+    for row in rows {
         let back = read_back(&map, row);
-        report(&rt, &back)?;
+        report(rt, &back)?;
         if same_record(&back) {
             same = same.saturating_add(1);
         }
@@ -77,4 +76,9 @@ fn main(rt: LibcRuntime) -> io::Result<()> {
     let codes = rows.len();
     let standing = map.len();
     println!(rt, "{codes} codes read back, {standing} records in the map, {same} the same record under both keys")
+}
+
+fn main(rt: LibcRuntime) -> io::Result<()> {
+    let rows = starter_list();
+    read_back_all(&rt, &rows)
 }

@@ -1,0 +1,7 @@
+mod Counting
+mod Rounds
+mod Listing
+mod Probing
+mod Writing
+mod Calls
+mod Stored
