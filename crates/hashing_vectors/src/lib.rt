@@ -10,8 +10,8 @@ mod tests {
     use hashing::fnv::fnv1a_bytes;
     use std::test::*;
 
-    // From the test suite that the authors of FNV publish, but for the last two rows, whose hashes
-    // come from a second implementation.
+    // Rows of the test suite that the authors of FNV publish, as known here, but for the last two. All hashes were
+    // recomputed by a second implementation.
     const TEXTS: [(&[u8], u64); 19] = [
         (b"", 0xcbf2_9ce4_8422_2325),
         (b"a", 0xaf63_dc4c_8601_ec8c),
