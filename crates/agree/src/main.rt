@@ -1,4 +1,6 @@
 // Reads traces of calls, runs each on three maps of its own, and says of each call whether the three answered alike.
+#![tactic(auto)]
+
 use agreement::parts::Parts;
 use agreement::{Agreement, agree};
 use base::SENTINEL;

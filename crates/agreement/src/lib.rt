@@ -1,5 +1,7 @@
 // One trace run three times: on two maps of the same records, and with the keys exchanged on a map of crossed records. The
 // parts of the three maps may be of any kinds.
+#![tactic(auto)]
+
 ghost use Rattle.std.specs.Prelude.{◌≡◌, IfOk};
 ghost use Rattle.agreement.specs.Rooms.{parts_room, common};
 ghost use Rattle.indexed_items.specs.Items.{least};

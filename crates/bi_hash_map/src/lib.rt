@@ -1,4 +1,6 @@
 // A map of records under two keys: a record is found by either, and no two records share one.
+#![tactic(auto)]
+
 ghost use Rattle.std.specs.Prelude.{◌≡◌, length};
 ghost use Rattle.bi_hash_map.specs.Maps.{map_state, Sound};
 ghost use Rattle.bi_hash_map.specs.Matches.{matched};

@@ -1,4 +1,6 @@
 // Runs of calls on a small map of pairs, with each call's answer.
+#![tactic(auto)]
+
 use base::SENTINEL;
 use bi_hash_map::BiHashMap;
 use hash_table::HashTable;

@@ -1,4 +1,6 @@
 // What field service does with a map: a list goes in, and each record is read back under both its keys.
+#![tactic(auto)]
+
 ghost use Rattle.std.specs.Prelude.{◌≡◌};
 ghost use Rattle.bi_hash_map.specs.Maps.{map_state, Sound};
 ghost use Rattle.field_service.specs.Read.{all_inserted, read};

@@ -1,4 +1,6 @@
 // Tables of pairs of a hash and a slot.
+#![tactic(auto)]
+
 ghost use Rattle.std.specs.Prelude.{◌≡◌, ℕ, ◌≤◌, List, [], ◌∷◌, length, MatchResult};
 ghost use Rattle.base.specs.Counting.{Same};
 ghost use Rattle.hash_table.specs.Pairs.{candidate, adding, removing, remapping};

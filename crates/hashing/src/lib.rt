@@ -1,4 +1,6 @@
 // Hashes of one to three words of 64 bits.
+#![tactic(auto)]
+
 ghost use Rattle.std.specs.Prelude.{◌≡◌, ℕ};
 ghost use Rattle.hashing.specs.declared.Words.{Words};
 

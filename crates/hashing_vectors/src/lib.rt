@@ -1,4 +1,6 @@
 // The hashes of `hashing` on vectors: texts and words whose hashes are known from elsewhere.
+#![tactic(auto)]
+
 #[cfg(test)]
 mod tests {
     use hashing::flat::Flat;

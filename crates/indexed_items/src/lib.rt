@@ -1,4 +1,6 @@
 // Records in slots, with the two tables that find them kept in step: the steps that the calls of a map are made of.
+#![tactic(auto)]
+
 ghost use Rattle.std.specs.Prelude.{◌≡◌, true, length, Some, None};
 ghost use Rattle.indexed_items.specs.Items.{least, items_state, hashes_of, prepared, Stands, Sound};
 ghost use Rattle.item.specs.Kinds.{kind_of};

@@ -12,7 +12,7 @@ pub trait Comparable: BiHashItem {
 
     fn is_alike(&self, other: &Self) -> bool
         ensures answer { result ≡ alike self.now other.now }
-        ensures keys { result ≡ true → same_keys (kind_of Self.BiHashItem Comparable.K1.Key Comparable.K2.Key) self.now other.now ≡ true };
+        ensures keys { result ≡ true → same_keys (kind_of Self.BiHashItem Self.K1.Key Self.K2.Key) self.now other.now ≡ true };
 }
 
 // Exchanged keys change nothing of what the records hold.

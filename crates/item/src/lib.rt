@@ -1,4 +1,6 @@
 // Records with two keys.
+#![tactic(auto)]
+
 ghost use Rattle.std.specs.Prelude.{◌≡◌, Bool, true};
 ghost use Rattle.hashing.specs.declared.Words.{Words as Hashed};
 

@@ -1,4 +1,6 @@
 // The two tables of a map, by which a record is found under either key.
+#![tactic(auto)]
+
 ghost use Rattle.std.specs.Prelude.{◌≡◌, ℕ, [], ◌∷◌, MatchResult};
 ghost use Rattle.base.specs.Counting.{Same};
 ghost use Rattle.hash_table.specs.Pairs.{adding, removing, remapping};

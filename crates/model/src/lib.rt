@@ -1,4 +1,5 @@
 // The answers of a two-key map, and (in specs/) the reference model that says which answer each call has.
+#![tactic(auto)]
 
 // A standing record and its slot.
 #[derive(Clone, Copy)]

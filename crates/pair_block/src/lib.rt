@@ -1,4 +1,6 @@
 // A memory for index pairs inside the value: no allocation and no borrow.
+#![tactic(auto)]
+
 ghost use Rattle.std.specs.Prelude.{◌≡◌, ◌≤◌, [], length, take};
 
 use hash_table::index::HashedIndex;

@@ -1,4 +1,6 @@
 // A table that probes: a pair stands at the home of its hash or after it, so that only few cells are read.
+#![tactic(auto)]
+
 ghost use Rattle.std.specs.Prelude.{◌≡◌, ◌-◌, [], MatchOption, ◌==◌};
 ghost use Rattle.base.specs.Counting.{times};
 ghost use Rattle.hash_table.specs.Pairs.{homeless};

@@ -1,4 +1,6 @@
 // Takes the starter list into a map and reads each code back under both its keys, as field service does.
+#![tactic(auto)]
+
 use base::SENTINEL;
 use bi_hash_map::BiHashMap;
 use field_service::{ReadBack, insert_all, read_back};

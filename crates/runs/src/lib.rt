@@ -1,4 +1,6 @@
 // Runs: a trace of calls made on a map, one after the other, with what each of them left behind.
+#![tactic(auto)]
+
 ghost use Rattle.std.specs.Prelude.{◌≡◌, IfOk, OnOk};
 ghost use Rattle.bi_hash_map.specs.Maps.{map_state, Sound};
 ghost use Rattle.item.specs.Kinds.{kind_of};

@@ -1,5 +1,7 @@
 // Each kind of table over each kind of memory, beside a plain list of pairs: the same calls on both, with hashes that spread
 // and with one hash for all, and every difference counted.
+#![tactic(auto)]
+
 use base::SENTINEL;
 use hash_table::HashTable;
 use hash_table::index::HashedIndex;

@@ -1,5 +1,7 @@
 // Traces: calls of a map as values, and what a run of them leaves behind. In specs/: what a run comes to on the reference
 // model, and the laws that hold of every run.
+#![tactic(auto)]
+
 use model::{Found, MapRefusal, Overwritten};
 
 // A call of a map. A shrink brings a scratch of its own.

@@ -1,4 +1,6 @@
 // The smallest records with two keys, and a few runs of calls on them with the answers that the reference model gives.
+#![tactic(auto)]
+
 ghost use Rattle.hashing.specs.declared.Words.TheVariants.{One};
 ghost use Rattle.std.specs.Prelude.{Some};
 ghost use Rattle.worked_cases.specs.Cases.{WorkedCases};

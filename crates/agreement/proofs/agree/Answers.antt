@@ -27,30 +27,30 @@ returns g c =
     let one = parts_room g.M.Memory g.A.HashTable g.B.HashTable c.args.one in
     let two = parts_room g.N.Memory g.C.HashTable g.D.HashTable c.args.two in
     let three = parts_room g.O.Memory g.E.HashTable g.F.HashTable c.args.three in
-    let capacity = c.common-capacity-capacity.result in
+    let capacity = c.common_capacity-capacity.result in
     let calls = trace_of g.P.Predicate.keeps c.args.trace.now in
-    let is : capacity ≡ common wanted one two three = common_of capacity wanted c.common-capacity-capacity.ensures c.room.ensures c.room-2.ensures c.room-3.ensures in
+    let is : capacity ≡ common wanted one two three = common_of capacity wanted c.common_capacity-capacity.ensures c.room.ensures c.room-2.ensures c.room-3.ensures in
     let most = within_most capacity wanted one two three is in
     record {
       capacity = is;
       agreed =
           agreed kind law capacity most calls _ _ _
-          (c.in-ok-first.ensures ∙ ap (λ n. run kind (fresh n) calls) (fits capacity _ _ _ most (within_first capacity wanted one two three is)))
-          (c.in-ok-second.ensures ∙ ap (λ n. run kind (fresh n) calls) (fits capacity _ _ _ most (within_second capacity wanted one two three is)))
-          (c.in-ok-crossed.ensures
-          ∙ ap (λ n. run (crossed kind) (fresh n) (trace_of (keeps_inside g.P.Predicate.keeps) c.as-slice.result.now)) (fits capacity _ _ _ most (within_third capacity wanted one two three is))
-          ∙ ap (run (crossed kind) (fresh capacity)) (ap (trace_of (keeps_inside g.P.Predicate.keeps)) c.as-slice.ensures.value ∙ c.in-ok-exchanged.ensures));
+          (c.in_ok-first.ensures ∙ ap (λ n. run kind (fresh n) calls) (fits capacity _ _ _ most (within_first capacity wanted one two three is)))
+          (c.in_ok-second.ensures ∙ ap (λ n. run kind (fresh n) calls) (fits capacity _ _ _ most (within_second capacity wanted one two three is)))
+          (c.in_ok-crossed.ensures
+          ∙ ap (λ n. run (crossed kind) (fresh n) (trace_of (keeps_inside g.P.Predicate.keeps) c.as_slice.result.now)) (fits capacity _ _ _ most (within_third capacity wanted one two three is))
+          ∙ ap (run (crossed kind) (fresh capacity)) (ap (trace_of (keeps_inside g.P.Predicate.keeps)) c.as_slice.ensures.value ∙ c.in_ok-exchanged.ensures));
     }
 
 -- the exits for want of memory
-pub returns-in-err-exchanged : goal.returns-in-err-exchanged
-returns-in-err-exchanged g c = record { capacity = IfOk-from_err c.from-residual.result _ c.from-residual.ensures.0; agreed = IfOk-from_err c.from-residual.result _ c.from-residual.ensures.0 }
+pub returns-in_err-exchanged : goal.returns-in_err-exchanged
+returns-in_err-exchanged g c = record { capacity = IfOk-from_err c.from-residual.result _ c.from-residual.ensures.0; agreed = IfOk-from_err c.from-residual.result _ c.from-residual.ensures.0 }
 
-pub returns-in-err-first : goal.returns-in-err-first
-returns-in-err-first g c = record { capacity = IfOk-from_err c.from-residual-in-err-first.result _ c.from-residual-in-err-first.ensures.0; agreed = IfOk-from_err c.from-residual-in-err-first.result _ c.from-residual-in-err-first.ensures.0 }
+pub returns-in_err-first : goal.returns-in_err-first
+returns-in_err-first g c = record { capacity = IfOk-from_err c.from-residual-in_err-first.result _ c.from-residual-in_err-first.ensures.0; agreed = IfOk-from_err c.from-residual-in_err-first.result _ c.from-residual-in_err-first.ensures.0 }
 
-pub returns-in-err-second : goal.returns-in-err-second
-returns-in-err-second g c = record { capacity = IfOk-from_err c.from-residual-in-err-second.result _ c.from-residual-in-err-second.ensures.0; agreed = IfOk-from_err c.from-residual-in-err-second.result _ c.from-residual-in-err-second.ensures.0 }
+pub returns-in_err-second : goal.returns-in_err-second
+returns-in_err-second g c = record { capacity = IfOk-from_err c.from-residual-in_err-second.result _ c.from-residual-in_err-second.ensures.0; agreed = IfOk-from_err c.from-residual-in_err-second.result _ c.from-residual-in_err-second.ensures.0 }
 
-pub returns-in-err-crossed : goal.returns-in-err-crossed
-returns-in-err-crossed g c = record { capacity = IfOk-from_err c.from-residual-in-err-crossed.result _ c.from-residual-in-err-crossed.ensures.0; agreed = IfOk-from_err c.from-residual-in-err-crossed.result _ c.from-residual-in-err-crossed.ensures.0 }
+pub returns-in_err-crossed : goal.returns-in_err-crossed
+returns-in_err-crossed g c = record { capacity = IfOk-from_err c.from-residual-in_err-crossed.result _ c.from-residual-in_err-crossed.ensures.0; agreed = IfOk-from_err c.from-residual-in_err-crossed.result _ c.from-residual-in_err-crossed.ensures.0 }

@@ -13,9 +13,9 @@ returns g c =
     let st = step kind (map_state g.M.Memory c.args.map.now) (call_of g.P.Predicate.keeps c.args.call.now) in
     let ws = c.make-outcome.new.scratch in
     let s' = map_state g.M.Memory c.make-outcome.new.map in
-    let brings = c.as-mut-slice.ensures.value ∙ c.in-ok-scratch.ensures in
+    let brings = c.as_mut_slice.ensures.value ∙ c.in_ok-scratch.ensures in
     record {
       sound = λ s. c.make-outcome.ensures.sound s;
-      entry = λ s. noted c.make-outcome.result ws s' st _ _ (with_items_is c.in-ok-scratch.scratch ws (omega arith)) (c.in-ok-standing.ensures (c.make-outcome.ensures.sound s)) (c.make-outcome.ensures.step s brings);
+      entry = λ s. noted c.make-outcome.result ws s' st _ _ (with_items_is c.in_ok-scratch.scratch ws (omega arith)) (c.in_ok-standing.ensures (c.make-outcome.ensures.sound s)) (c.make-outcome.ensures.step s brings);
       state = λ s. ap (λ x. x.after) (c.make-outcome.ensures.step s brings);
     }

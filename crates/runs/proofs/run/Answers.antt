@@ -16,20 +16,20 @@ loop-call-init g c s =
     (s, ap (λ es. log_of es ++ all) c.new-events.ensures.items, refl)
 
 -- the exit for want of memory
-pub returns-in-err-perform : goal.returns-in-err-perform
-returns-in-err-perform g c =
+pub returns-in_err-perform : goal.returns-in_err-perform
+returns-in_err-perform g c =
     record {
       sound = λ s. c.perform.ensures.sound (c.loop-call.invariant s).0;
       log = λ s. IfOk-from_err c.from-residual.result _ c.from-residual.ensures.0;
       state = λ s. IfOk-from_err c.from-residual.result _ c.from-residual.ensures.0;
     }
 
-pub returns-in-err-push : goal.returns-in-err-push
-returns-in-err-push g c =
+pub returns-in_err-push : goal.returns-in_err-push
+returns-in_err-push g c =
     record {
       sound = λ s. c.perform.ensures.sound (c.loop-call.invariant s).0;
-      log = λ s. IfOk-from_err c.from-residual-in-err-push.result _ c.from-residual-in-err-push.ensures.0;
-      state = λ s. IfOk-from_err c.from-residual-in-err-push.result _ c.from-residual-in-err-push.ensures.0;
+      log = λ s. IfOk-from_err c.from-residual-in_err-push.result _ c.from-residual-in_err-push.ensures.0;
+      state = λ s. IfOk-from_err c.from-residual-in_err-push.result _ c.from-residual-in_err-push.ensures.0;
     }
 
 pub loop-call-preserved : goal.loop-call-preserved
@@ -42,9 +42,9 @@ loop-call-preserved g c s =
     let i = c.loop-call.call-index in
     let call = c.call-item.result in
     let inv = c.loop-call.invariant s in
-    let goes_on = c.in-ok-perform.ensures in (
+    let goes_on = c.in_ok-perform.ensures in (
       c.perform.ensures.sound inv.0,
-      run_more keeps kind trace i call c.loop-call-test.true c.call-item.is before after (goes_on.state inv.0) (vec_items c.loop-call.events) _ c.in-ok-perform.field-0 _ c.in-ok-push.ensures.items (goes_on.entry inv.0) inv.1,
+      run_more keeps kind trace i call c.loop-call-test.true c.call-item.is before after (goes_on.state inv.0) (vec_items c.loop-call.events) _ c.in_ok-perform.field-0 _ c.in_ok-push.ensures.items (goes_on.entry inv.0) inv.1,
       left_more keeps kind trace i call c.loop-call-test.true c.call-item.is before after (goes_on.state inv.0) _ inv.2,
     )
 

@@ -5,7 +5,7 @@ use Rattle.bi_hash_map.specs.Maps.{map_state}
 use Rattle.item_set.specs.Slots.{anyone, shown, at, held}
 use Rattle.runs.proofs.Showing.{shown_more}
 use Rattle.runs.proofs.standing.Goals as goal
-use Rattle.runs.proofs.standing.Goals.{in-Some+in-ok-push, in-default}
+use Rattle.runs.proofs.standing.Goals.{in-Some+in_ok-push, in_default}
 
 pub loop-slot-preserved : goal.loop-slot-preserved
 loop-slot-preserved g c s =
@@ -13,10 +13,10 @@ loop-slot-preserved g c s =
     let i = c.loop-slot.slot in
     let within : i < length slots = omega (arith, c.slots-slot-end.ensures s) in
     let before = vec_items c.loop-slot.items in
-    let pushed : vec_items c.match-get-slot.items ≡ before ++ option_to_list (held (at slots i)) =
-    elim c.match-get-slot.branch [
-      | in-Some+in-ok-push w ↦ ap vec_items w.items-is ∙ w.in-ok-push.ensures.items ∙ ap (λ o. before ++ option_to_list o) (sym w.in-Some.is ∙ c.get-slot.ensures)
-      | in-default w ↦ ap vec_items w.items-is ∙ sym (append-nil before) ∙ ap (λ o. before ++ option_to_list o) (sym w.in-default.is ∙ c.get-slot.ensures)
+    let pushed : vec_items c.match-get_slot.items ≡ before ++ option_to_list (held (at slots i)) =
+    elim c.match-get_slot.branch [
+      | in-Some+in_ok-push w ↦ ap vec_items w.items-is ∙ w.in_ok-push.ensures.items ∙ ap (λ o. before ++ option_to_list o) (sym w.in-Some.is ∙ c.get_slot.ensures)
+      | in_default w ↦ ap vec_items w.items-is ∙ sym (append-nil before) ∙ ap (λ o. before ++ option_to_list o) (sym w.in_default.is ∙ c.get_slot.ensures)
     ] in
     pushed ∙ ap (λ v. v ++ option_to_list (held (at slots i))) (c.loop-slot.invariant s) ∙ sym (shown_more slots i within)
 

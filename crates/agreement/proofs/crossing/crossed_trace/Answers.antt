@@ -8,16 +8,16 @@ use Rattle.agreement.proofs.Crossings.{crossed_more}
 use Rattle.agreement.proofs.crossing.crossed_trace.Goals as goal
 
 -- the exit for want of memory
-pub returns-in-err-crossed : goal.returns-in-err-crossed
-returns-in-err-crossed g c = IfOk-from_err c.from-residual.result _ c.from-residual.ensures.0
+pub returns-in_err-crossed : goal.returns-in_err-crossed
+returns-in_err-crossed g c = IfOk-from_err c.from-residual.result _ c.from-residual.ensures.0
 
-pub returns-in-err-push : goal.returns-in-err-push
-returns-in-err-push g c = IfOk-from_err c.from-residual-in-err-push.result _ c.from-residual-in-err-push.ensures.0
+pub returns-in_err-push : goal.returns-in_err-push
+returns-in_err-push g c = IfOk-from_err c.from-residual-in_err-push.result _ c.from-residual-in_err-push.ensures.0
 
 pub loop-call-preserved : goal.loop-call-preserved
 loop-call-preserved g c =
     crossed_more g.P.Predicate.keeps c.args.trace.now c.loop-call.call-index c.call-item.result c.loop-call-test.true c.call-item.is
-    (vec_items c.loop-call.calls) _ c.in-ok-crossed.field-0 c.in-ok-push.ensures.items c.in-ok-crossed.ensures c.loop-call.invariant
+    (vec_items c.loop-call.calls) _ c.in_ok-crossed.field-0 c.in_ok-push.ensures.items c.in_ok-crossed.ensures c.loop-call.invariant
 
 pub returns : goal.returns
 returns g c =

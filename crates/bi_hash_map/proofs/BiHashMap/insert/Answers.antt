@@ -20,19 +20,19 @@ returns-in-Some g c =
     }
 
 -- none does, and the record is taken in
-pub returns-in-Some-insert-with-hashes : goal.returns-in-Some-insert-with-hashes
-returns-in-Some-insert-with-hashes g c =
+pub returns-in-Some-insert_with_hashes : goal.returns-in-Some-insert_with_hashes
+returns-in-Some-insert_with_hashes g c =
     let kind = kind_of g.T.BiHashItem g.K1.Key g.K2.Key in
     let value = c.args.value in
     let p = has1 kind (kind.key1 value) in
     let q = has2 kind (kind.key2 value) in
     let before = map_state g.M.Memory c.args.self.now in
-    let after = items_state g.M.Memory c.insert-with-hashes.new.self in
+    let after = items_state g.M.Memory c.insert_with_hashes.new.self in
     record {
-      sound = λ s. c.insert-with-hashes.ensures.sound s (none_share p q value before (sym (ap shared c.in-default.is) ∙ c.sharing.ensures s)) c.make-hashes-hashes.ensures;
+      sound = λ s. c.insert_with_hashes.ensures.sound s (none_share p q value before (sym (ap shared c.in_default.is) ∙ c.sharing.ensures s)) c.make_hashes-hashes.ensures;
       step = λ s.
-          let none = sym (ap shared c.in-default.is) ∙ c.sharing.ensures s in
-          let grown = growing_some before after value c.in-Some-insert-with-hashes.slot (c.in-Some-insert-with-hashes.ensures.step s (none_share p q value before none) c.make-hashes-hashes.ensures) in
+          let none = sym (ap shared c.in_default.is) ∙ c.sharing.ensures s in
+          let grown = growing_some before after value c.in-Some-insert_with_hashes.slot (c.in-Some-insert_with_hashes.ensures.step s (none_share p q value before none) c.make_hashes-hashes.ensures) in
           inserting_taken p q value before after _ none grown.0 grown.1 grown.2;
     }
 
@@ -44,11 +44,11 @@ returns-in-None g c =
     let p = has1 kind (kind.key1 value) in
     let q = has2 kind (kind.key2 value) in
     let before = map_state g.M.Memory c.args.self.now in
-    let after = items_state g.M.Memory c.insert-with-hashes.new.self in
+    let after = items_state g.M.Memory c.insert_with_hashes.new.self in
     record {
-      sound = λ s. c.insert-with-hashes.ensures.sound s (none_share p q value before (sym (ap shared c.in-default.is) ∙ c.sharing.ensures s)) c.make-hashes-hashes.ensures;
+      sound = λ s. c.insert_with_hashes.ensures.sound s (none_share p q value before (sym (ap shared c.in_default.is) ∙ c.sharing.ensures s)) c.make_hashes-hashes.ensures;
       step = λ s.
-          let none = sym (ap shared c.in-default.is) ∙ c.sharing.ensures s in
-          let full = growing_none before after value (c.in-None.ensures.step s (none_share p q value before none) c.make-hashes-hashes.ensures) in
+          let none = sym (ap shared c.in_default.is) ∙ c.sharing.ensures s in
+          let full = growing_none before after value (c.in-None.ensures.step s (none_share p q value before none) c.make_hashes-hashes.ensures) in
           inserting_full p q value before after none full.0 full.1;
     }

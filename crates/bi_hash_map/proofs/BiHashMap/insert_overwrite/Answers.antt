@@ -10,9 +10,9 @@ returns-in-Some g c =
     let kind = kind_of g.T.BiHashItem g.K1.Key g.K2.Key in
     let value = c.args.value in
     record {
-      sound = λ s. c.commit-insert-overwrite.ensures.sound s (c.prepare-insert-overwrite-prepared.ensures s);
+      sound = λ s. c.commit_insert_overwrite.ensures.sound s (c.prepare_insert_overwrite-prepared.ensures s);
       step = λ s.
-          c.in-Some.ensures.step s (c.prepare-insert-overwrite-prepared.ensures s)
+          c.in-Some.ensures.step s (c.prepare_insert_overwrite-prepared.ensures s)
           ∙ overwriting_commits (has1 kind (kind.key1 value)) (has2 kind (kind.key2 value)) value (map_state g.M.Memory c.args.self.now) s.well.linked;
     }
 
@@ -21,8 +21,8 @@ returns-in-None g c =
     let kind = kind_of g.T.BiHashItem g.K1.Key g.K2.Key in
     let value = c.args.value in
     record {
-      sound = λ s. c.commit-insert-overwrite.ensures.sound s (c.prepare-insert-overwrite-prepared.ensures s);
+      sound = λ s. c.commit_insert_overwrite.ensures.sound s (c.prepare_insert_overwrite-prepared.ensures s);
       step = λ s.
-          c.in-None.ensures.step s (c.prepare-insert-overwrite-prepared.ensures s)
+          c.in-None.ensures.step s (c.prepare_insert_overwrite-prepared.ensures s)
           ∙ overwriting_commits (has1 kind (kind.key1 value)) (has2 kind (kind.key2 value)) value (map_state g.M.Memory c.args.self.now) s.well.linked;
     }

@@ -13,9 +13,9 @@ returns g c =
     let before = map_state g.M.Memory c.args.self.now in
     let p = has2 kind c.args.key.now in
     record {
-      sound = λ s. c.remove-found.ensures.sound s (standing_found p before before _ refl (c.find2-by-second.ensures s));
+      sound = λ s. c.remove_found.ensures.sound s (standing_found p before before _ refl (c.find2-by_second.ensures s));
       step = λ s.
-          ap (λ t. goes t (looked c.answer.result)) (c.remove-found.ensures.state s (standing_found p before before _ refl (c.find2-by-second.ensures s)))
-          ∙ ap (goes (freed_at before c.find2-by-second.result)) c.answer.ensures
-          ∙ ap (λ o. goes (freed_at before o) (seen o)) (c.find2-by-second.ensures s);
+          ap (λ t. goes t (looked c.answer.result)) (c.remove_found.ensures.state s (standing_found p before before _ refl (c.find2-by_second.ensures s)))
+          ∙ ap (goes (freed_at before c.find2-by_second.result)) c.answer.ensures
+          ∙ ap (λ o. goes (freed_at before o) (seen o)) (c.find2-by_second.ensures s);
     }

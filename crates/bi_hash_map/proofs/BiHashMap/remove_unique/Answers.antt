@@ -13,9 +13,9 @@ returns g c =
     let before = map_state g.M.Memory c.args.self.now in
     let p = both (has1 kind c.args.key1.now) (has2 kind c.args.key2.now) in
     record {
-      sound = λ s. c.remove-found.ensures.sound s (standing_found p before before _ refl (c.find-unique-by-both.ensures s));
+      sound = λ s. c.remove_found.ensures.sound s (standing_found p before before _ refl (c.find_unique-by_both.ensures s));
       step = λ s.
-          ap (λ t. goes t (looked c.answer.result)) (c.remove-found.ensures.state s (standing_found p before before _ refl (c.find-unique-by-both.ensures s)))
-          ∙ ap (goes (freed_at before c.find-unique-by-both.result)) c.answer.ensures
-          ∙ ap (λ o. goes (freed_at before o) (seen o)) (c.find-unique-by-both.ensures s);
+          ap (λ t. goes t (looked c.answer.result)) (c.remove_found.ensures.state s (standing_found p before before _ refl (c.find_unique-by_both.ensures s)))
+          ∙ ap (goes (freed_at before c.find_unique-by_both.result)) c.answer.ensures
+          ∙ ap (λ o. goes (freed_at before o) (seen o)) (c.find_unique-by_both.ensures s);
     }

@@ -52,9 +52,9 @@ returns-in-Other g c =
     let q = has2 kind (kind.key2 value) in
     let before = map_state g.M.Memory c.args.self.now in
     record {
-      sound = λ s. c.insert-overwrite.ensures.sound s;
+      sound = λ s. c.insert_overwrite.ensures.sound s;
       step = λ s.
-          c.insert-overwrite.ensures.step s
+          c.insert_overwrite.ensures.step s
           ∙ substituting_other p q value before (s.well.once1 _) (s.well.once2 _) (tell p q value before (s.well.once1 _) (s.well.once2 _) Other
           (c.in-Other.ensures ∙ ap (λ o. matched o c.find2-second.result) (c.find1-first.ensures s ∙ ap (λ k. find (has1 kind k) 0 before.slots) c.key1.ensures)
           ∙ ap (matched (find p 0 before.slots)) (c.find2-second.ensures s ∙ ap (λ k. find (has2 kind k) 0 before.slots) c.key2.ensures)));

@@ -25,10 +25,10 @@ returns-in-Permuted g c =
           c.compact.new.self _ _ did.0 (c.compact.ensures.ready s.ready)
           (well_packed (kind_of g.T.BiHashItem g.K1.Key g.K2.Key) before s.well)
           (indexed_packed g.A.HashTable (key_hash g.H.WordHash state g.K1.Key g.T.BiHashItem.first) before c.args.self.now.tables.k1_to_item.items _ ws _
-          s.well.linked s.first (c.remap-indexes.ensures.ok s.first.ok) c.remap-indexes.ensures.room
-          (c.remap-indexes.ensures.step s.first.ok ∙ ap (λ (vs : List ℕ). remapping vs (g.A.HashTable.pairs c.args.self.now.tables.k1_to_item.items)) did.1))
+          s.well.linked s.first (c.remap_indexes.ensures.ok s.first.ok) c.remap_indexes.ensures.room
+          (c.remap_indexes.ensures.step s.first.ok ∙ ap (λ (vs : List ℕ). remapping vs (g.A.HashTable.pairs c.args.self.now.tables.k1_to_item.items)) did.1))
           (indexed_packed g.B.HashTable (key_hash g.H.WordHash state g.K2.Key g.T.BiHashItem.second) before c.args.self.now.tables.k2_to_item.items _ ws _
-          s.well.linked s.second (c.remap-indexes-in-Permuted.ensures.ok s.second.ok) c.remap-indexes-in-Permuted.ensures.room
-          (c.remap-indexes-in-Permuted.ensures.step s.second.ok ∙ ap (λ (vs : List ℕ). remapping vs (g.B.HashTable.pairs c.args.self.now.tables.k2_to_item.items)) did.1));
+          s.well.linked s.second (c.remap_indexes-in-Permuted.ensures.ok s.second.ok) c.remap_indexes-in-Permuted.ensures.room
+          (c.remap_indexes-in-Permuted.ensures.step s.second.ok ∙ ap (λ (vs : List ℕ). remapping vs (g.B.HashTable.pairs c.args.self.now.tables.k2_to_item.items)) did.1));
       step = λ s. c.in-Some.ensures.step s.ready;
     }

@@ -6,19 +6,19 @@ use Rattle.item_set.specs.States.{standing}
 use Rattle.model.specs.Model.{all_meet}
 use Rattle.map_steps.proofs.Meeting.{meet_some, meet_none, meet_all}
 use Rattle.map_steps.proofs.equality.equal.Goals as goal
-use Rattle.map_steps.proofs.equality.equal.Goals.{in-Some+else-not-has-like, in-default}
+use Rattle.map_steps.proofs.equality.equal.Goals.{in-Some+else-not-has_like, in_default}
 
 -- a record meets none like it
-pub returns-then-not-has-like : goal.returns-then-not-has-like
-returns-then-not-has-like g c s t =
+pub returns-then-not-has_like : goal.returns-then-not-has_like
+returns-then-not-has_like g c s t =
     let kind = kind_of g.T.BiHashItem g.K1.Key g.K2.Key in
     let alike = g.T.Comparable.alike in
     let one = items_state g.M.Memory c.args.first.now in
     let two = items_state g.N.Memory c.args.second.now in
     let i = c.loop-slot.slot in
-    let step = meet_some kind alike two one.slots i c.in-Some.item _ (omega (arith, c.slots-slot-end.ensures s)) (sym c.get.ensures ∙ c.in-Some.is) (c.has-like.ensures t) in
+    let step = meet_some kind alike two one.slots i c.in-Some.item _ (omega (arith, c.slots-slot-end.ensures s)) (sym c.get.ensures ∙ c.in-Some.is) (c.has_like.ensures t) in
     let none : all_meet kind alike two one.slots ≡ false =
-    sym (c.loop-slot.invariant t s) ∙ step ∙ ap (λ b. b && all_meet kind alike two (drop (i + 1) one.slots)) c.if-not-has-like.true in
+    sym (c.loop-slot.invariant t s) ∙ step ∙ ap (λ b. b && all_meet kind alike two (drop (i + 1) one.slots)) c.if-not-has_like.true in
     sym (and_right (eqb (standing one) (standing two)) (all_meet kind alike two one.slots) none)
 
 pub returns : goal.returns
@@ -42,9 +42,9 @@ loop-slot-preserved g c t s =
     let i = c.loop-slot.slot in
     let l : i < length one.slots = omega (arith, c.slots-slot-end.ensures s) in
     elim c.match-get.branch [
-      | in-Some+else-not-has-like w ↦
-          sym (meet_some kind alike two one.slots i w.in-Some.item _ l (sym c.get.ensures ∙ w.in-Some.is) (w.has-like.ensures t)
-          ∙ ap (λ b. b && all_meet kind alike two (drop (i + 1) one.slots)) w.if-not-has-like.false)
+      | in-Some+else-not-has_like w ↦
+          sym (meet_some kind alike two one.slots i w.in-Some.item _ l (sym c.get.ensures ∙ w.in-Some.is) (w.has_like.ensures t)
+          ∙ ap (λ b. b && all_meet kind alike two (drop (i + 1) one.slots)) w.if-not-has_like.false)
           ∙ c.loop-slot.invariant t s
-      | in-default w ↦ sym (meet_none kind alike two one.slots i l (sym c.get.ensures ∙ w.in-default.is)) ∙ c.loop-slot.invariant t s
+      | in_default w ↦ sym (meet_none kind alike two one.slots i l (sym c.get.ensures ∙ w.in_default.is)) ∙ c.loop-slot.invariant t s
     ]

@@ -5,12 +5,12 @@ use Rattle.model.proofs.Sharing.{tells, both_none, both_here, both_other}
 use Rattle.indexed_items.specs.Items.{items_state}
 use Rattle.map_steps.proofs.lookup.find_unique.Goals as goal
 
-pub returns-in-default : goal.returns-in-default
-returns-in-default g c s =
+pub returns-in_default : goal.returns-in_default
+returns-in_default g c s =
     let kind = kind_of g.T.BiHashItem g.K1.Key g.K2.Key in
     let p = has1 kind c.args.key1.now in
     let xs = (items_state g.M.Memory c.args.items.now).slots in
-    both_none p (has2 kind c.args.key2.now) xs (s.well.once1 _) (s.well.once2 _) (tells p xs None (sym c.in-default.is ∙ c.find1.ensures s))
+    both_none p (has2 kind c.args.key2.now) xs (s.well.once1 _) (s.well.once2 _) (tells p xs None (sym c.in_default.is ∙ c.find1.ensures s))
 
 pub returns-then-equals : goal.returns-then-equals
 returns-then-equals g c s =

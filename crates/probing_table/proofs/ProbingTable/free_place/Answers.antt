@@ -5,8 +5,8 @@ use Rattle.probing_table.specs.Probed.{spot, met, Full, Free}
 use Rattle.probing_table.proofs.Probing.{all_held}
 use Rattle.probing_table.proofs.ProbingTable.free_place.Goals as goal
 
-pub returns-then-is-free : goal.returns-then-is-free
-returns-then-is-free g c =
+pub returns-then-is_free : goal.returns-then-is_free
+returns-then-is_free g c =
     let n = c.capacity-n.result in
     let xs = g.M.Memory.items c.args.self.now.memory in
     let i = c.spot-place.result in
@@ -18,7 +18,7 @@ returns-then-is-free g c =
       j,
       omega arith,
       c.spot-place.ensures.is ∙ ap (λ p. spot n p j) is_p,
-      ap held (sym c.at.ensures) ∙ not-true (held c.at.result) (sym c.if-is-free.ensures),
+      ap held (sym c.at.ensures) ∙ not-true (held c.at.result) (sym c.if-is_free.ensures),
       λ k l. ap (λ p. held (met n xs p k)) (sym is_p) ∙ c.loop-j.invariant k l,
     )
 
@@ -32,7 +32,7 @@ loop-j-preserved g c k l =
     ap (λ z. held (met n xs p z)) e
     ∙ ap (λ z. held (cell_at xs z)) (sym c.spot-place.ensures.is)
     ∙ ap held (sym c.at.ensures)
-    ∙ not-false (held c.at.result) (sym c.if-is-free.ensures))
+    ∙ not-false (held c.at.result) (sym c.if-is_free.ensures))
     (λ e. c.loop-j.invariant k (omega arith))
     (cases_eq k c.loop-j.j)
 

@@ -9,8 +9,8 @@ pub loop-j-init : goal.loop-j-init
 loop-j-init g c len =
     times_begins c.capacity-n.result (g.M.Memory.items c.args.self.now.memory) c.args.hash c.home-start.result len c.home-start.ensures.below c.home-start.ensures.is c.args.slot
 
-pub returns-then-is-vacant : goal.returns-then-is-vacant
-returns-then-is-vacant g c =
+pub returns-then-is_vacant : goal.returns-then-is_vacant
+returns-then-is_vacant g c =
     let xs = g.M.Memory.items c.args.self.now.memory in
     let h = c.args.hash in
     let s = c.args.slot in
@@ -35,11 +35,11 @@ returns-then-is-vacant g c =
     s
     (c.loop-j.invariant laid.0)
     laid.1
-    (sym c.if-is-vacant.ensures))
+    (sym c.if-is_vacant.ensures))
 
-pub returns-then-holds-pair : goal.returns-then-holds-pair
-returns-then-holds-pair g c =
-    let found = holds_parts c.args.hash c.args.slot c.at-cell.result (sym c.if-holds-pair.ensures) in (
+pub returns-then-holds_pair : goal.returns-then-holds_pair
+returns-then-holds_pair g c =
+    let found = holds_parts c.args.hash c.args.slot c.at-cell.result (sym c.if-holds_pair.ensures) in (
       omega (arith, c.spot-place.ensures.below),
       ap held (sym c.at-cell.ensures) ∙ found.0,
       ap pair_of (sym c.at-cell.ensures) ∙ found.1,
@@ -63,7 +63,7 @@ loop-j-preserved g c len =
     c.at-cell.ensures
     c.args.slot
     (c.loop-j.invariant len)
-    (sym c.if-holds-pair.ensures)
+    (sym c.if-holds_pair.ensures)
 
 pub returns : goal.returns
 returns g c =

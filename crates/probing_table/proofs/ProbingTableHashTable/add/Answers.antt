@@ -14,12 +14,12 @@ returns-then-self-capacity g c =
       pairs = λ ok. refl;
     }
 
-pub returns-in-default : goal.returns-in-default
-returns-in-default g c =
+pub returns-in_default : goal.returns-in_default
+returns-in_default g c =
     record {
       room = refl;
       ok = λ ok. ok;
-      code = λ ok. absurd (omega (arith, ok.1, c.in-default.ensures ok.0.0));
+      code = λ ok. absurd (omega (arith, ok.1, c.in_default.ensures ok.0.0));
       pairs = λ ok. refl;
     }
 

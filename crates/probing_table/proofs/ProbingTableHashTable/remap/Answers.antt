@@ -2,14 +2,14 @@ use Rattle.std.proofs.Common.{◌-◌, refl, ap, ◌∙◌, arith}
 use Rattle.probing_table.proofs.Calls.{moved_more, remapped_none, remapped}
 use Rattle.probing_table.proofs.ProbingTableHashTable.remap.Goals as goal
 
-pub returns-then-not-all-placed : goal.returns-then-not-all-placed
-returns-then-not-all-placed g c =
+pub returns-then-not-all_placed : goal.returns-then-not-all_placed
+returns-then-not-all_placed g c =
     let t = c.args.self.now in
     let n = g.M.Memory.room t.memory in
     record {
       room = refl {a = n - 1};
       ok = λ ok. ok;
-      step = λ ok. remapped_none n (g.M.Memory.items t.memory) t.count ok c.args.places.now c.if-not-all-placed.ensures;
+      step = λ ok. remapped_none n (g.M.Memory.items t.memory) t.count ok c.args.places.now c.if-not-all_placed.ensures;
     }
 
 pub loop-i-preserved : goal.loop-i-preserved
@@ -23,11 +23,11 @@ loop-i-preserved g c = (
       (g.M.Memory.items c.loop-i.self.memory)
       (g.M.Memory.items c.put.new.memory)
       c.at-cell.result
-      c.new-place-slot.result
+      c.new_place-slot.result
       (omega arith)
       c.loop-i.invariant.2
       c.at-cell.ensures
-      c.new-place-slot.ensures
+      c.new_place-slot.ensures
       c.put.ensures.items,
 )
 
@@ -49,6 +49,6 @@ returns g c =
     c.loop-i.invariant.1
     (omega arith)
     c.loop-i.invariant.2
-    c.if-not-all-placed.ensures
+    c.if-not-all_placed.ensures
     in
     record { room = ap (λ n. n - 1) c.loop-i.invariant.0; ok = λ ok. (left ok).0; step = λ ok. (left ok).1 }

@@ -4,13 +4,13 @@ use Rattle.probing_table.specs.Probed.{probed}
 use Rattle.probing_table.proofs.Calls.{taken}
 use Rattle.probing_table.proofs.ProbingTableHashTable.remove.Goals as goal
 
-pub returns-in-default : goal.returns-in-default
-returns-in-default g c =
+pub returns-in_default : goal.returns-in_default
+returns-in_default g c =
     let t = c.args.self.now in
     record {
       room = refl;
       ok = λ ok. ok;
-      code = λ ok. removing_none (probed (g.M.Memory.room t.memory) (g.M.Memory.items t.memory)) c.args.hash c.args.slot (c.in-default.ensures ok.0);
+      code = λ ok. removing_none (probed (g.M.Memory.room t.memory) (g.M.Memory.items t.memory)) c.args.hash c.args.slot (c.in_default.ensures ok.0);
       pairs = λ ok. refl;
     }
 
@@ -33,7 +33,7 @@ returns g c =
     s
     c.in-Some.place
     (g.M.Memory.room c.put.new.memory)
-    c.saturating-sub-self.result
+    c.saturating_sub-self.result
     (g.M.Memory.items c.put.new.memory)
     zs
     c.put.ensures.room
@@ -41,7 +41,7 @@ returns g c =
     c.put.ensures.items
     c.tidy.ensures.tidied
     c.in-Some.ensures
-    c.saturating-sub-self.ensures
+    c.saturating_sub-self.ensures
     in
     record {
       room = ap (λ k. k - 1) (c.tidy.ensures.room ∙ c.put.ensures.room);

@@ -12,30 +12,30 @@ loop-j-init g c = (
   swept_begins c.capacity-n.result (g.M.Memory.items c.args.memory.now) c.args.place,
 )
 
-pub returns-then-not-is-removed : goal.returns-then-not-is-removed
-returns-then-not-is-removed g c =
+pub returns-then-not-is_removed : goal.returns-then-not-is_removed
+returns-then-not-is_removed g c =
     let xs = g.M.Memory.items c.args.memory.now in
     let ys = g.M.Memory.items c.loop-j.memory in
     let n = c.capacity-n.result in
     let b = c.loop-j.last in
-    let held_on : removed (cell_at ys b) ≡ false = ap removed (sym c.at-cell.ensures) ∙ sym c.if-not-is-removed.ensures in
+    let held_on : removed (cell_at ys b) ≡ false = ap removed (sym c.at-cell.ensures) ∙ sym c.if-not-is_removed.ensures in
     record {
       room = c.loop-j.invariant.0;
       tidied =
           subst
           (λ m. LaidBut c.args.place m xs → Tidied m xs ys)
           c.capacity-n.ensures
-          (λ laid. swept_stops n xs b c.loop-j.-j ys (c.loop-j.invariant.2 laid) (λ gone _. both_ways (removed (cell_at ys b)) held_on gone));
+          (λ laid. swept_stops n xs b c.loop-j._j ys (c.loop-j.invariant.2 laid) (λ gone _. both_ways (removed (cell_at ys b)) held_on gone));
     }
 
-pub returns-then-not-is-vacant : goal.returns-then-not-is-vacant
-returns-then-not-is-vacant g c =
+pub returns-then-not-is_vacant : goal.returns-then-not-is_vacant
+returns-then-not-is_vacant g c =
     let xs = g.M.Memory.items c.args.memory.now in
     let ys = g.M.Memory.items c.loop-j.memory in
     let n = c.capacity-n.result in
     let b = c.loop-j.last in
     let next : vacant (met n ys b 1) ≡ false =
-    ap (λ i. vacant (cell_at ys i)) (sym c.after.ensures.is) ∙ ap vacant (sym c.at-next.ensures) ∙ sym c.if-not-is-vacant.ensures
+    ap (λ i. vacant (cell_at ys i)) (sym c.after.ensures.is) ∙ ap vacant (sym c.at-next.ensures) ∙ sym c.if-not-is_vacant.ensures
     in
     record {
       room = c.loop-j.invariant.0;
@@ -43,7 +43,7 @@ returns-then-not-is-vacant g c =
           subst
           (λ m. LaidBut c.args.place m xs → Tidied m xs ys)
           c.capacity-n.ensures
-          (λ laid. swept_stops n xs b c.loop-j.-j ys (c.loop-j.invariant.2 laid) (λ _ empty. both_ways (vacant (met n ys b 1)) next empty));
+          (λ laid. swept_stops n xs b c.loop-j._j ys (c.loop-j.invariant.2 laid) (λ _ empty. both_ways (vacant (met n ys b 1)) next empty));
     }
 
 pub loop-j-preserved : goal.loop-j-preserved
@@ -51,9 +51,9 @@ loop-j-preserved g c =
     let ys = g.M.Memory.items c.loop-j.memory in
     let n = c.capacity-n.result in
     let b = c.loop-j.last in
-    let gone : removed (cell_at ys b) ≡ true = ap removed (sym c.at-cell.ensures) ∙ sym c.if-not-is-removed.ensures in
+    let gone : removed (cell_at ys b) ≡ true = ap removed (sym c.at-cell.ensures) ∙ sym c.if-not-is_removed.ensures in
     let next : vacant (met n ys b 1) ≡ true =
-    ap (λ i. vacant (cell_at ys i)) (sym c.after.ensures.is) ∙ ap vacant (sym c.at-next.ensures) ∙ sym c.if-not-is-vacant.ensures
+    ap (λ i. vacant (cell_at ys i)) (sym c.after.ensures.is) ∙ ap vacant (sym c.at-next.ensures) ∙ sym c.if-not-is_vacant.ensures
     in (
       c.put.ensures.room ∙ c.loop-j.invariant.0,
       c.before-last.ensures.below,
@@ -62,7 +62,7 @@ loop-j-preserved g c =
           n
           (g.M.Memory.items c.args.memory.now)
           b
-          c.loop-j.-j
+          c.loop-j._j
           ys
           (c.loop-j.invariant.2 laid)
           c.before-last.result
@@ -85,5 +85,5 @@ returns g c =
           subst
           (λ m. LaidBut c.args.place m xs → Tidied m xs ys)
           c.capacity-n.ensures
-          (λ laid. swept_ends c.capacity-n.result xs c.loop-j.last c.loop-j.-j ys (c.loop-j.invariant.2 laid) (omega arith));
+          (λ laid. swept_ends c.capacity-n.result xs c.loop-j.last c.loop-j._j ys (c.loop-j.invariant.2 laid) (omega arith));
     }

@@ -8,4 +8,4 @@ invariant-loop-j g l =
     (g.M.Memory.room l.memory ≡ g.M.Memory.room l.initial.memory)
     × (l.last < l.n)
     × (LaidBut l.place l.n (g.M.Memory.items l.initial.memory)
-    → Swept l.n l.last l.-j (g.M.Memory.items l.initial.memory) (g.M.Memory.items l.memory))
+    → Swept l.n l.last l._j (g.M.Memory.items l.initial.memory) (g.M.Memory.items l.memory))

@@ -10,8 +10,8 @@ use Rattle.hash_table.proofs.linear.LinearTable.all_placed.Goals as goal
 pub loop-i-init : goal.loop-i-init
 loop-i-init g c = refl
 
-pub returns-then-new-place : goal.returns-then-new-place
-returns-then-new-place g c =
+pub returns-then-new_place : goal.returns-then-new_place
+returns-then-new_place g c =
     let xs = g.M.Memory.items c.args.self.now.memory in
     let places = c.args.places.now in
     let x = c.at-cell.result in
@@ -24,7 +24,7 @@ returns-then-new-place g c =
     c.at-cell.ensures
     (homeless places)
     c.loop-i.invariant
-    (homeless_here places (pair_of x) c.new-place.result c.new-place.ensures c.if-new-place.true)
+    (homeless_here places (pair_of x) c.new_place.result c.new_place.ensures c.if-new_place.true)
     in
     sym (ne_eqb (times (homeless places) (pairs_of xs)) 0 some)
 
@@ -40,7 +40,7 @@ loop-i-preserved g c =
     c.at-cell.ensures
     (homeless places)
     c.loop-i.invariant
-    (homeless_not places (pair_of x) c.new-place.result c.new-place.ensures c.if-new-place.false)
+    (homeless_not places (pair_of x) c.new_place.result c.new_place.ensures c.if-new_place.false)
 
 pub returns : goal.returns
 returns g c =

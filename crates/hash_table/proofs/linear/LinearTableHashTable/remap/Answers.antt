@@ -6,13 +6,13 @@ use Rattle.hash_table.proofs.Celled.{pair_moved}
 use Rattle.hash_table.proofs.Walking.{length_changed, changed_more, changed_all}
 use Rattle.hash_table.proofs.linear.LinearTableHashTable.remap.Goals as goal
 
-pub returns-then-not-all-placed : goal.returns-then-not-all-placed
-returns-then-not-all-placed g c =
+pub returns-then-not-all_placed : goal.returns-then-not-all_placed
+returns-then-not-all_placed g c =
     let ps = pairs_of (g.M.Memory.items c.args.self.now.memory) in
     record {
       room = refl {a = g.M.Memory.room c.args.self.now.memory};
       ok = λ u. u;
-      step = λ _. remapping_none c.args.places.now ps c.if-not-all-placed.ensures;
+      step = λ _. remapping_none c.args.places.now ps c.if-not-all_placed.ensures;
     }
 
 pub at-cell-requires : goal.at-cell-requires
@@ -39,10 +39,10 @@ loop-i-preserved g c =
           c.loop-i.invariant.1
           (g.M.Memory.items c.put.new.memory)
           x
-          (record { hash = x.hash; slot = c.new-place-slot.result; mark = x.mark })
+          (record { hash = x.hash; slot = c.new_place-slot.result; mark = x.mark })
           (omega arith)
           c.at-cell.ensures
-          (pair_moved c.args.places.now x c.new-place-slot.result c.new-place-slot.ensures)
+          (pair_moved c.args.places.now x c.new_place-slot.result c.new_place-slot.ensures)
           c.put.ensures.items,
     )
 
@@ -60,6 +60,6 @@ returns g c =
           places
           (pairs_of xs)
           (pairs_of ys)
-          c.if-not-all-placed.ensures
+          c.if-not-all_placed.ensures
           (changed_all (moved places) c.loop-i.i xs ys c.loop-i.invariant.1 (omega arith));
     }

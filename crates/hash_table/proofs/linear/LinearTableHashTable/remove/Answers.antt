@@ -5,8 +5,8 @@ use Rattle.hash_table.proofs.Answering.{removing_one, removing_none}
 use Rattle.hash_table.proofs.Celled.{swap_out_pairs}
 use Rattle.hash_table.proofs.linear.LinearTableHashTable.remove.Goals as goal
 
-pub returns-in-default : goal.returns-in-default
-returns-in-default g c =
+pub returns-in_default : goal.returns-in_default
+returns-in_default g c =
     record {
       room = refl;
       ok = λ u. u;
@@ -16,7 +16,7 @@ returns-in-default g c =
           (pairs_of (g.M.Memory.items c.args.self.now.memory))
           c.args.hash
           c.args.slot
-          c.in-default.ensures;
+          c.in_default.ensures;
       pairs = λ _. refl;
     }
 

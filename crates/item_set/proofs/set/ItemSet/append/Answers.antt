@@ -13,11 +13,11 @@ returns-then-slot-ge-MOST g c =
     λ w. omega (arith, end_full (meaning g.M.Memory c.args.self.now) w.linked c.requires.head, w.counted, w.linked.small, c.len-slot.ensures.count) in
     record { ready = λ w. absurd (no w); step = λ w. absurd (no w) }
 
-pub returns-in-default : goal.returns-in-default
-returns-in-default g c =
+pub returns-in_default : goal.returns-in_default
+returns-in_default g c =
     let no : Ready g.M.Memory c.args.self.now → ⊥ =
     λ w.
-    let p = push_cases {U = Unit {0}} (Err c.in-default.field-0) _ (g.M.Memory.items c.args.self.now.items) _ (Occupied c.args.value) c.in-default.ensures.step in
+    let p = push_cases {U = Unit {0}} (Err c.in_default.field-0) _ (g.M.Memory.items c.args.self.now.items) _ (Occupied c.args.value) c.in_default.ensures.step in
     omega (arith, p.0, end_full (meaning g.M.Memory c.args.self.now) w.linked c.requires.head, w.counted, w.room) in
     record { ready = λ w. absurd (no w); step = λ w. absurd (no w) }
 

@@ -7,11 +7,11 @@ use Rattle.item_set.proofs.Links.{head_vacant}
 use Rattle.item_set.proofs.set.ItemSet.fill.Goals as goal
 
 -- the head is a slot
-pub returns-in-default : goal.returns-in-default
-returns-in-default g c =
+pub returns-in_default : goal.returns-in_default
+returns-in_default g c =
     let no : Ready g.M.Memory c.args.self.now → ⊥ =
     λ w.
-    let p = write_cases {U = Unit {0}} (Err c.in-default.field-0) (g.M.Memory.items c.args.self.now.items) _ c.args.slot (Occupied c.args.value) c.in-default.ensures.step in
+    let p = write_cases {U = Unit {0}} (Err c.in_default.field-0) (g.M.Memory.items c.args.self.now.items) _ c.args.slot (Occupied c.args.value) c.in_default.ensures.step in
     let h = head_vacant (meaning g.M.Memory c.args.self.now) w.linked (λ q. c.requires.vacant (c.requires.head ∙ q)) in
     omega (arith, p.0, h.0, c.requires.head) in
     record { ready = λ w. absurd (no w); step = λ w. absurd (no w) }

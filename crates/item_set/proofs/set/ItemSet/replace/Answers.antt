@@ -8,11 +8,11 @@ use Rattle.item_set.proofs.Holding.{occupied, occupied_within}
 use Rattle.item_set.proofs.set.ItemSet.replace.Goals as goal
 
 -- a slot that holds a record is there
-pub returns-in-default-write : goal.returns-in-default-write
-returns-in-default-write g c =
+pub returns-in_default-write : goal.returns-in_default-write
+returns-in_default-write g c =
     let xs = g.M.Memory.items c.args.self.now.items in
     let a = occupied (at xs c.args.slot) c.in-Some.record (sym c.get.ensures ∙ c.in-Some.is) in
-    let p = write_cases {U = Unit {0}} (Err c.in-default-write.field-0) xs _ c.args.slot (Occupied c.args.replacement) c.in-default-write.ensures.step in
+    let p = write_cases {U = Unit {0}} (Err c.in_default-write.field-0) xs _ c.args.slot (Occupied c.args.replacement) c.in_default-write.ensures.step in
     absurd (omega (arith, p.0, occupied_within xs c.args.slot c.in-Some.record a))
 
 pub returns : goal.returns
