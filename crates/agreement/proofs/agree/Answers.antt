@@ -14,14 +14,14 @@ use Rattle.agreement.proofs.agree.Goals as goal
 
 pub returns : goal.returns
 returns g c =
-    let kind = kind_of g.T.BiHashItem g.K1.Key g.K2.Key in
+    let kind = kind_of g.T.BiHashItem g.T.K1.Key g.T.K2.Key in
     let law : Lawful kind = record {
-      refl1 = g.met.K1.Key.reflexive;
-      refl2 = g.met.K2.Key.reflexive;
-      sym1 = g.met.K1.Key.symmetric;
-      sym2 = g.met.K2.Key.symmetric;
-      trans1 = g.met.K1.Key.transitive;
-      trans2 = g.met.K2.Key.transitive;
+      refl1 = g.met.T.K1.Key.reflexive;
+      refl2 = g.met.T.K2.Key.reflexive;
+      sym1 = g.met.T.K1.Key.symmetric;
+      sym2 = g.met.T.K2.Key.symmetric;
+      trans1 = g.met.T.K1.Key.transitive;
+      trans2 = g.met.T.K2.Key.transitive;
     } in
     let wanted = c.args.wanted in
     let one = parts_room g.M.Memory g.A.HashTable g.B.HashTable c.args.one in

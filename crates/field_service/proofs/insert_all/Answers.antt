@@ -8,7 +8,7 @@ use Rattle.field_service.proofs.insert_all.Goals as goal
 
 pub loop-row-preserved : goal.loop-row-preserved
 loop-row-preserved g c s =
-    let kind = kind_of g.T.BiHashItem g.K1.Key g.K2.Key in
+    let kind = kind_of g.T.BiHashItem g.T.K1.Key g.T.K2.Key in
     let before = map_state g.M.Memory c.loop-row.map in
     let row = c.row-item.result in
     let i = c.loop-row.row-index in
@@ -21,7 +21,7 @@ loop-row-preserved g c s =
 
 pub returns : goal.returns
 returns g c =
-    let kind = kind_of g.T.BiHashItem g.K1.Key g.K2.Key in
+    let kind = kind_of g.T.BiHashItem g.T.K1.Key g.T.K2.Key in
     let after = map_state g.M.Memory c.loop-row.map in
     record {
       sound = λ s. (c.loop-row.invariant s).0;

@@ -9,7 +9,7 @@ use Rattle.runs.proofs.perform.Goals as goal
 
 pub returns : goal.returns
 returns g c =
-    let kind = kind_of g.T.BiHashItem g.K1.Key g.K2.Key in
+    let kind = kind_of g.T.BiHashItem g.T.K1.Key g.T.K2.Key in
     let st = step kind (map_state g.M.Memory c.args.map.now) (call_of g.P.Predicate.keeps c.args.call.now) in
     let ws = c.make-outcome.new.scratch in
     let s' = map_state g.M.Memory c.make-outcome.new.map in

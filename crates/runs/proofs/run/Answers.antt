@@ -11,7 +11,7 @@ use Rattle.runs.proofs.run.Goals as goal
 
 pub loop-call-init : goal.loop-call-init
 loop-call-init g c s =
-    let kind = kind_of g.T.BiHashItem g.K1.Key g.K2.Key in
+    let kind = kind_of g.T.BiHashItem g.T.K1.Key g.T.K2.Key in
     let all = run kind (map_state g.M.Memory c.args.map.now) (trace_of g.P.Predicate.keeps c.args.trace.now) in
     (s, ap (λ es. log_of es ++ all) c.new-events.ensures.items, refl)
 
@@ -35,7 +35,7 @@ returns-in_err-push g c =
 pub loop-call-preserved : goal.loop-call-preserved
 loop-call-preserved g c s =
     let keeps = g.P.Predicate.keeps in
-    let kind = kind_of g.T.BiHashItem g.K1.Key g.K2.Key in
+    let kind = kind_of g.T.BiHashItem g.T.K1.Key g.T.K2.Key in
     let before = map_state g.M.Memory c.loop-call.map in
     let after = map_state g.M.Memory c.perform.new.map in
     let trace = c.args.trace.now in
@@ -51,7 +51,7 @@ loop-call-preserved g c s =
 pub returns : goal.returns
 returns g c =
     let keeps = g.P.Predicate.keeps in
-    let kind = kind_of g.T.BiHashItem g.K1.Key g.K2.Key in
+    let kind = kind_of g.T.BiHashItem g.T.K1.Key g.T.K2.Key in
     let after = map_state g.M.Memory c.loop-call.map in
     let trace = c.args.trace.now in
     let log = log_of (vec_items c.loop-call.events) in

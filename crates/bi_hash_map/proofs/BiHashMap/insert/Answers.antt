@@ -11,7 +11,7 @@ use Rattle.bi_hash_map.proofs.BiHashMap.insert.Goals as goal
 -- a record shares a key
 pub returns-in-Some : goal.returns-in-Some
 returns-in-Some g c =
-    let kind = kind_of g.T.BiHashItem g.K1.Key g.K2.Key in
+    let kind = kind_of g.T.BiHashItem g.T.K1.Key g.T.K2.Key in
     let value = c.args.value in
     record {
       sound = λ s. s;
@@ -22,7 +22,7 @@ returns-in-Some g c =
 -- none does, and the record is taken in
 pub returns-in-Some-insert_with_hashes : goal.returns-in-Some-insert_with_hashes
 returns-in-Some-insert_with_hashes g c =
-    let kind = kind_of g.T.BiHashItem g.K1.Key g.K2.Key in
+    let kind = kind_of g.T.BiHashItem g.T.K1.Key g.T.K2.Key in
     let value = c.args.value in
     let p = has1 kind (kind.key1 value) in
     let q = has2 kind (kind.key2 value) in
@@ -39,7 +39,7 @@ returns-in-Some-insert_with_hashes g c =
 -- none does, and as many records stand as may
 pub returns-in-None : goal.returns-in-None
 returns-in-None g c =
-    let kind = kind_of g.T.BiHashItem g.K1.Key g.K2.Key in
+    let kind = kind_of g.T.BiHashItem g.T.K1.Key g.T.K2.Key in
     let value = c.args.value in
     let p = has1 kind (kind.key1 value) in
     let q = has2 kind (kind.key2 value) in

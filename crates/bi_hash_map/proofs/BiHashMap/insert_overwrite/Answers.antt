@@ -7,7 +7,7 @@ use Rattle.bi_hash_map.proofs.BiHashMap.insert_overwrite.Goals as goal
 
 pub returns-in-Some : goal.returns-in-Some
 returns-in-Some g c =
-    let kind = kind_of g.T.BiHashItem g.K1.Key g.K2.Key in
+    let kind = kind_of g.T.BiHashItem g.T.K1.Key g.T.K2.Key in
     let value = c.args.value in
     record {
       sound = λ s. c.commit_insert_overwrite.ensures.sound s (c.prepare_insert_overwrite-prepared.ensures s);
@@ -18,7 +18,7 @@ returns-in-Some g c =
 
 pub returns-in-None : goal.returns-in-None
 returns-in-None g c =
-    let kind = kind_of g.T.BiHashItem g.K1.Key g.K2.Key in
+    let kind = kind_of g.T.BiHashItem g.T.K1.Key g.T.K2.Key in
     let value = c.args.value in
     record {
       sound = λ s. c.commit_insert_overwrite.ensures.sound s (c.prepare_insert_overwrite-prepared.ensures s);

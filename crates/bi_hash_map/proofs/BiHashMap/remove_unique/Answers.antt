@@ -9,7 +9,7 @@ use Rattle.bi_hash_map.proofs.BiHashMap.remove_unique.Goals as goal
 
 pub returns : goal.returns
 returns g c =
-    let kind = kind_of g.T.BiHashItem g.K1.Key g.K2.Key in
+    let kind = kind_of g.T.BiHashItem g.T.K1.Key g.T.K2.Key in
     let before = map_state g.M.Memory c.args.self.now in
     let p = both (has1 kind c.args.key1.now) (has2 kind c.args.key2.now) in
     record {

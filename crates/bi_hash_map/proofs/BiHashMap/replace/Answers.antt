@@ -10,7 +10,7 @@ use Rattle.bi_hash_map.proofs.BiHashMap.replace.Goals as goal
 
 pub returns-in-Nothing : goal.returns-in-Nothing
 returns-in-Nothing g c =
-    let kind = kind_of g.T.BiHashItem g.K1.Key g.K2.Key in
+    let kind = kind_of g.T.BiHashItem g.T.K1.Key g.T.K2.Key in
     let value = c.args.value in
     let p = has1 kind (kind.key1 value) in
     let q = has2 kind (kind.key2 value) in
@@ -25,7 +25,7 @@ returns-in-Nothing g c =
 
 pub returns-in-Both : goal.returns-in-Both
 returns-in-Both g c =
-    let kind = kind_of g.T.BiHashItem g.K1.Key g.K2.Key in
+    let kind = kind_of g.T.BiHashItem g.T.K1.Key g.T.K2.Key in
     let value = c.args.value in
     let p = has1 kind (kind.key1 value) in
     let q = has2 kind (kind.key2 value) in
@@ -46,7 +46,7 @@ returns-in-Both g c =
 
 pub returns-in-Other : goal.returns-in-Other
 returns-in-Other g c =
-    let kind = kind_of g.T.BiHashItem g.K1.Key g.K2.Key in
+    let kind = kind_of g.T.BiHashItem g.T.K1.Key g.T.K2.Key in
     let value = c.args.value in
     let p = has1 kind (kind.key1 value) in
     let q = has2 kind (kind.key2 value) in

@@ -7,7 +7,7 @@ use Rattle.bi_hash_map.proofs.BiHashMap.sharing.Goals as goal
 
 pub returns : goal.returns
 returns g c s =
-    let kind = kind_of g.T.BiHashItem g.K1.Key g.K2.Key in
+    let kind = kind_of g.T.BiHashItem g.T.K1.Key g.T.K2.Key in
     let value = c.args.value.now in
     let xs = (map_state g.M.Memory c.args.self.now).slots in
     c.in_order.ensures

@@ -21,13 +21,13 @@ returns-in-Permuted g c =
     record {
       sound = λ s.
           let did = compacting_permuted before after ws c.compact.new.scratch (ap (λ o. compacts (Some o) after c.compact.new.scratch) (sym c.in-Permuted.is) ∙ c.in-Some.ensures.step s.ready) in
-          sound_by g.T.BiHashItem g.K1.Key g.K2.Key g.M.Memory g.A.HashTable g.B.HashTable g.H.WordHash
+          sound_by g.T.BiHashItem g.T.K1.Key g.T.K2.Key g.M.Memory g.A.HashTable g.B.HashTable g.H.WordHash
           c.compact.new.self _ _ did.0 (c.compact.ensures.ready s.ready)
-          (well_packed (kind_of g.T.BiHashItem g.K1.Key g.K2.Key) before s.well)
-          (indexed_packed g.A.HashTable (key_hash g.H.WordHash state g.K1.Key g.T.BiHashItem.first) before c.args.self.now.tables.k1_to_item.items _ ws _
+          (well_packed (kind_of g.T.BiHashItem g.T.K1.Key g.T.K2.Key) before s.well)
+          (indexed_packed g.A.HashTable (key_hash g.H.WordHash state g.T.K1.Key g.T.BiHashItem.first) before c.args.self.now.tables.k1_to_item.items _ ws _
           s.well.linked s.first (c.remap_indexes.ensures.ok s.first.ok) c.remap_indexes.ensures.room
           (c.remap_indexes.ensures.step s.first.ok ∙ ap (λ (vs : List ℕ). remapping vs (g.A.HashTable.pairs c.args.self.now.tables.k1_to_item.items)) did.1))
-          (indexed_packed g.B.HashTable (key_hash g.H.WordHash state g.K2.Key g.T.BiHashItem.second) before c.args.self.now.tables.k2_to_item.items _ ws _
+          (indexed_packed g.B.HashTable (key_hash g.H.WordHash state g.T.K2.Key g.T.BiHashItem.second) before c.args.self.now.tables.k2_to_item.items _ ws _
           s.well.linked s.second (c.remap_indexes-in-Permuted.ensures.ok s.second.ok) c.remap_indexes-in-Permuted.ensures.room
           (c.remap_indexes-in-Permuted.ensures.step s.second.ok ∙ ap (λ (vs : List ℕ). remapping vs (g.B.HashTable.pairs c.args.self.now.tables.k2_to_item.items)) did.1));
       step = λ s. c.in-Some.ensures.step s.ready;

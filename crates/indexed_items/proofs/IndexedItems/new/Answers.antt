@@ -20,12 +20,12 @@ returns g c =
     c.new-items.ensures.state ∙ ap (λ n. fresh (min 4096 (min n room))) (c.min-limit.ensures ∙ ap (min limit) rooms) in
     record {
       sound =
-          sound_by g.T.BiHashItem g.K1.Key g.K2.Key g.M.Memory g.A.HashTable g.B.HashTable g.H.WordHash
+          sound_by g.T.BiHashItem g.T.K1.Key g.T.K2.Key g.M.Memory g.A.HashTable g.B.HashTable g.H.WordHash
           c.new-items.result _ (fresh most) e c.new-items.ensures.ready
-          (well_fresh (kind_of g.T.BiHashItem g.K1.Key g.K2.Key) most (least_most limit room first second))
-          (indexed_fresh g.A.HashTable (key_hash g.H.WordHash c.args.state g.K1.Key g.T.BiHashItem.first) most _ c.new-k1_to_item.ensures.ok c.new-k1_to_item.ensures.pairs
+          (well_fresh (kind_of g.T.BiHashItem g.T.K1.Key g.T.K2.Key) most (least_most limit room first second))
+          (indexed_fresh g.A.HashTable (key_hash g.H.WordHash c.args.state g.T.K1.Key g.T.BiHashItem.first) most _ c.new-k1_to_item.ensures.ok c.new-k1_to_item.ensures.pairs
           (subst (λ n. most ≤ n) (sym c.new-k1_to_item.ensures.room) (least_first limit room first second)))
-          (indexed_fresh g.B.HashTable (key_hash g.H.WordHash c.args.state g.K2.Key g.T.BiHashItem.second) most _ c.new-k2_to_item.ensures.ok c.new-k2_to_item.ensures.pairs
+          (indexed_fresh g.B.HashTable (key_hash g.H.WordHash c.args.state g.T.K2.Key g.T.BiHashItem.second) most _ c.new-k2_to_item.ensures.ok c.new-k2_to_item.ensures.pairs
           (subst (λ n. most ≤ n) (sym c.new-k2_to_item.ensures.room) (least_second limit room first second)));
       state = e;
     }

@@ -11,7 +11,7 @@ use Rattle.map_steps.proofs.equality.equal.Goals.{in-Some+else-not-has_like, in_
 -- a record meets none like it
 pub returns-then-not-has_like : goal.returns-then-not-has_like
 returns-then-not-has_like g c s t =
-    let kind = kind_of g.T.BiHashItem g.K1.Key g.K2.Key in
+    let kind = kind_of g.T.BiHashItem g.T.K1.Key g.T.K2.Key in
     let alike = g.T.Comparable.alike in
     let one = items_state g.M.Memory c.args.first.now in
     let two = items_state g.N.Memory c.args.second.now in
@@ -23,7 +23,7 @@ returns-then-not-has_like g c s t =
 
 pub returns : goal.returns
 returns g c s t =
-    let kind = kind_of g.T.BiHashItem g.K1.Key g.K2.Key in
+    let kind = kind_of g.T.BiHashItem g.T.K1.Key g.T.K2.Key in
     let alike = g.T.Comparable.alike in
     let one = items_state g.M.Memory c.args.first.now in
     let two = items_state g.N.Memory c.args.second.now in
@@ -35,7 +35,7 @@ returns g c s t =
 
 pub loop-slot-preserved : goal.loop-slot-preserved
 loop-slot-preserved g c t s =
-    let kind = kind_of g.T.BiHashItem g.K1.Key g.K2.Key in
+    let kind = kind_of g.T.BiHashItem g.T.K1.Key g.T.K2.Key in
     let alike = g.T.Comparable.alike in
     let one = items_state g.M.Memory c.args.first.now in
     let two = items_state g.N.Memory c.args.second.now in

@@ -11,7 +11,7 @@ use Rattle.map_steps.proofs.overwrite.commit_insert_overwrite.Goals as goal
 -- there was no room
 pub returns-in_default : goal.returns-in_default
 returns-in_default g c =
-    let kind = kind_of g.T.BiHashItem g.K1.Key g.K2.Key in
+    let kind = kind_of g.T.BiHashItem g.T.K1.Key g.T.K2.Key in
     let value = c.args.value in
     let p = has1 kind (kind.key1 value) in
     let q = has2 kind (kind.key2 value) in
@@ -25,7 +25,7 @@ returns-in_default g c =
           let freed = c.displace-displaced.ensures.state value s first second in
           c.insert_with_hashes.ensures.sound (c.displace-displaced.ensures.sound value s first second)
           (ap (λ x. tally (shares kind value) x.slots) freed.1 ∙ cleared_none p q before (s.well.once1 _) (s.well.once2 _))
-          (ap (λ x. x.hashes) e ∙ ap (λ h. hashes_of g.T.BiHashItem g.K1.Key g.K2.Key g.H.WordHash h value) (sym c.displace-displaced.ensures.hasher));
+          (ap (λ x. x.hashes) e ∙ ap (λ h. hashes_of g.T.BiHashItem g.T.K1.Key g.T.K2.Key g.H.WordHash h value) (sym c.displace-displaced.ensures.hasher));
       step = λ s e.
           let first = ap (λ x. x.first) e in
           let second = ap (λ x. x.second) e in
@@ -33,14 +33,14 @@ returns-in_default g c =
           let full = growing_none middle after value
           (c.in_default.ensures.step (c.displace-displaced.ensures.sound value s first second)
           (ap (λ x. tally (shares kind value) x.slots) freed.1 ∙ cleared_none p q before (s.well.once1 _) (s.well.once2 _))
-          (ap (λ x. x.hashes) e ∙ ap (λ h. hashes_of g.T.BiHashItem g.K1.Key g.K2.Key g.H.WordHash h value) (sym c.displace-displaced.ensures.hasher))) in
+          (ap (λ x. x.hashes) e ∙ ap (λ h. hashes_of g.T.BiHashItem g.T.K1.Key g.T.K2.Key g.H.WordHash h value) (sym c.displace-displaced.ensures.hasher))) in
           committing_full p q value before middle after freed.1 full.0 full.1;
     }
 
 -- there was
 pub returns : goal.returns
 returns g c =
-    let kind = kind_of g.T.BiHashItem g.K1.Key g.K2.Key in
+    let kind = kind_of g.T.BiHashItem g.T.K1.Key g.T.K2.Key in
     let value = c.args.value in
     let p = has1 kind (kind.key1 value) in
     let q = has2 kind (kind.key2 value) in
@@ -54,7 +54,7 @@ returns g c =
           let freed = c.displace-displaced.ensures.state value s first second in
           c.insert_with_hashes.ensures.sound (c.displace-displaced.ensures.sound value s first second)
           (ap (λ x. tally (shares kind value) x.slots) freed.1 ∙ cleared_none p q before (s.well.once1 _) (s.well.once2 _))
-          (ap (λ x. x.hashes) e ∙ ap (λ h. hashes_of g.T.BiHashItem g.K1.Key g.K2.Key g.H.WordHash h value) (sym c.displace-displaced.ensures.hasher));
+          (ap (λ x. x.hashes) e ∙ ap (λ h. hashes_of g.T.BiHashItem g.T.K1.Key g.T.K2.Key g.H.WordHash h value) (sym c.displace-displaced.ensures.hasher));
       step = λ s e.
           let first = ap (λ x. x.first) e in
           let second = ap (λ x. x.second) e in
@@ -62,6 +62,6 @@ returns g c =
           let grown = growing_some middle after value c.in-Some.slot
           (c.in-Some.ensures.step (c.displace-displaced.ensures.sound value s first second)
           (ap (λ x. tally (shares kind value) x.slots) freed.1 ∙ cleared_none p q before (s.well.once1 _) (s.well.once2 _))
-          (ap (λ x. x.hashes) e ∙ ap (λ h. hashes_of g.T.BiHashItem g.K1.Key g.K2.Key g.H.WordHash h value) (sym c.displace-displaced.ensures.hasher))) in
+          (ap (λ x. x.hashes) e ∙ ap (λ h. hashes_of g.T.BiHashItem g.T.K1.Key g.T.K2.Key g.H.WordHash h value) (sym c.displace-displaced.ensures.hasher))) in
           committing_taken p q value before middle after c.in-Some.slot _ freed.1 grown.0 grown.1 grown.2 freed.0;
     }

@@ -11,7 +11,7 @@ use Rattle.map_steps.proofs.overwrite.displace.Goals as goal
 
 pub returns : goal.returns
 returns g c =
-    let kind = kind_of g.T.BiHashItem g.K1.Key g.K2.Key in
+    let kind = kind_of g.T.BiHashItem g.T.K1.Key g.T.K2.Key in
     let before = items_state g.M.Memory c.args.items.now in
     let middle = items_state g.M.Memory c.remove_prepared-first.new.items in
     record {
@@ -25,7 +25,7 @@ returns g c =
           c.remove_prepared-second.ensures.sound b
           (c.remove_prepared-first.ensures.sound a s (standing_found p before before a refl refl) e)
           (standing_found q _ middle b one.1 (sym (another_is p q before (s.well.once2 _))))
-          (f ∙ ap (λ h. option_map (prepared g.T.BiHashItem g.K1.Key g.K2.Key g.H.WordHash h) b) (sym c.remove_prepared-first.ensures.hasher));
+          (f ∙ ap (λ h. option_map (prepared g.T.BiHashItem g.T.K1.Key g.T.K2.Key g.H.WordHash h) b) (sym c.remove_prepared-first.ensures.hasher));
       state = λ v s e f.
           let p = has1 kind (kind.key1 v) in
           let q = has2 kind (kind.key2 v) in
@@ -36,7 +36,7 @@ returns g c =
           let two = c.remove_prepared-second.ensures.state b
           (c.remove_prepared-first.ensures.sound a s (standing_found p before before a refl refl) e)
           (standing_found q _ middle b one.1 later)
-          (f ∙ ap (λ h. option_map (prepared g.T.BiHashItem g.K1.Key g.K2.Key g.H.WordHash h) b) (sym c.remove_prepared-first.ensures.hasher)) in (
+          (f ∙ ap (λ h. option_map (prepared g.T.BiHashItem g.T.K1.Key g.T.K2.Key g.H.WordHash h) b) (sym c.remove_prepared-first.ensures.hasher)) in (
             c.in_turn.ensures ∙ ap (λ l. l ++ one_of c.remove_prepared-second.result) (one_item _ a a one.0 refl) ∙ ap (λ l. item_of a ++ l) (one_item _ b _ two.0 later),
             cleared_is p q v before middle _ b one.1 two.1 later,
           );
