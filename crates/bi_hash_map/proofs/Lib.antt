@@ -1,2 +1,1 @@
 mod Substituting
-mod Shrinking
