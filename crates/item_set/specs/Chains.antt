@@ -1,6 +1,6 @@
 -- The chain of vacant slots.
 use Rattle.std.specs.Prelude.{◌≡◌, ℕ, ◌+◌, ◌<◌, ◌≤◌, List, [], ◌∷◌, length, ◌≢◌}
-use Rattle.std.specs.List.{AllByRecursion as All}
+use Rattle.std.specs.List.{AllByRecursion}
 use Rattle.base.specs.Counting.{sentinel}
 use Rattle.item_set.specs.declared.slot.ItemSlot.{ItemSlot}
 use Rattle.item_set.specs.declared.slot.ItemSlot.TheVariants.{Vacant}
@@ -8,7 +8,7 @@ use Rattle.item_set.specs.Slots.{at, next}
 use Rattle.item_set.specs.States.{State, standing}
 
 abbrev pub Avoids : ℕ → List ℕ → Type 0
-Avoids i is = All (λ j. j ≢ i) is
+Avoids i is = AllByRecursion (λ j. j ≢ i) is
 
 -- from h the chain visits these slots, each of them vacant and none twice, and ends at the sentinel
 abbrev pub Chain : {R : Type 0} → List (ItemSlot R) → ℕ → List ℕ → Type 0

@@ -44,13 +44,13 @@ returns g c =
 
 -- the exits for want of memory
 pub returns-in_err-exchanged : goal.returns-in_err-exchanged
-returns-in_err-exchanged g c = record { capacity = IfOk-from_err c.from-residual.result _ c.from-residual.ensures.0; agreed = IfOk-from_err c.from-residual.result _ c.from-residual.ensures.0 }
+returns-in_err-exchanged g c = record { capacity = IfOk-from_err c.from_residual.result _ c.from_residual.ensures.0; agreed = IfOk-from_err c.from_residual.result _ c.from_residual.ensures.0 }
 
 pub returns-in_err-first : goal.returns-in_err-first
-returns-in_err-first g c = record { capacity = IfOk-from_err c.from-residual-in_err-first.result _ c.from-residual-in_err-first.ensures.0; agreed = IfOk-from_err c.from-residual-in_err-first.result _ c.from-residual-in_err-first.ensures.0 }
+returns-in_err-first g c = record { capacity = IfOk-from_err c.from_residual-in_err-first.result _ c.from_residual-in_err-first.ensures.0; agreed = IfOk-from_err c.from_residual-in_err-first.result _ c.from_residual-in_err-first.ensures.0 }
 
 pub returns-in_err-second : goal.returns-in_err-second
-returns-in_err-second g c = record { capacity = IfOk-from_err c.from-residual-in_err-second.result _ c.from-residual-in_err-second.ensures.0; agreed = IfOk-from_err c.from-residual-in_err-second.result _ c.from-residual-in_err-second.ensures.0 }
+returns-in_err-second g c = record { capacity = IfOk-from_err c.from_residual-in_err-second.result _ c.from_residual-in_err-second.ensures.0; agreed = IfOk-from_err c.from_residual-in_err-second.result _ c.from_residual-in_err-second.ensures.0 }
 
 pub returns-in_err-crossed : goal.returns-in_err-crossed
-returns-in_err-crossed g c = record { capacity = IfOk-from_err c.from-residual-in_err-crossed.result _ c.from-residual-in_err-crossed.ensures.0; agreed = IfOk-from_err c.from-residual-in_err-crossed.result _ c.from-residual-in_err-crossed.ensures.0 }
+returns-in_err-crossed g c = record { capacity = IfOk-from_err c.from_residual-in_err-crossed.result _ c.from_residual-in_err-crossed.ensures.0; agreed = IfOk-from_err c.from_residual-in_err-crossed.result _ c.from_residual-in_err-crossed.ensures.0 }

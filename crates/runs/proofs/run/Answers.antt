@@ -20,16 +20,16 @@ pub returns-in_err-perform : goal.returns-in_err-perform
 returns-in_err-perform g c =
     record {
       sound = λ s. c.perform.ensures.sound (c.loop-call.invariant s).0;
-      log = λ s. IfOk-from_err c.from-residual.result _ c.from-residual.ensures.0;
-      state = λ s. IfOk-from_err c.from-residual.result _ c.from-residual.ensures.0;
+      log = λ s. IfOk-from_err c.from_residual.result _ c.from_residual.ensures.0;
+      state = λ s. IfOk-from_err c.from_residual.result _ c.from_residual.ensures.0;
     }
 
 pub returns-in_err-push : goal.returns-in_err-push
 returns-in_err-push g c =
     record {
       sound = λ s. c.perform.ensures.sound (c.loop-call.invariant s).0;
-      log = λ s. IfOk-from_err c.from-residual-in_err-push.result _ c.from-residual-in_err-push.ensures.0;
-      state = λ s. IfOk-from_err c.from-residual-in_err-push.result _ c.from-residual-in_err-push.ensures.0;
+      log = λ s. IfOk-from_err c.from_residual-in_err-push.result _ c.from_residual-in_err-push.ensures.0;
+      state = λ s. IfOk-from_err c.from_residual-in_err-push.result _ c.from_residual-in_err-push.ensures.0;
     }
 
 pub loop-call-preserved : goal.loop-call-preserved

@@ -9,10 +9,10 @@ use Rattle.agreement.proofs.crossing.crossed_trace.Goals as goal
 
 -- the exit for want of memory
 pub returns-in_err-crossed : goal.returns-in_err-crossed
-returns-in_err-crossed g c = IfOk-from_err c.from-residual.result _ c.from-residual.ensures.0
+returns-in_err-crossed g c = IfOk-from_err c.from_residual.result _ c.from_residual.ensures.0
 
 pub returns-in_err-push : goal.returns-in_err-push
-returns-in_err-push g c = IfOk-from_err c.from-residual-in_err-push.result _ c.from-residual-in_err-push.ensures.0
+returns-in_err-push g c = IfOk-from_err c.from_residual-in_err-push.result _ c.from_residual-in_err-push.ensures.0
 
 pub loop-call-preserved : goal.loop-call-preserved
 loop-call-preserved g c =
