@@ -1,5 +1,5 @@
 -- A record kind, as the reference model knows it: the two keys of a record, and when two keys are equal.
-use Rattle.std.specs.Prelude.{◌≡◌, Bool, true}
+use Rattle.std.specs.Prelude.{Bool}
 use Rattle.item.specs.declared.BiHashItem as item
 use Rattle.item.specs.declared.Key as key
 

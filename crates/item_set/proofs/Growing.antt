@@ -1,13 +1,13 @@
 -- A set after a record was put in or taken out, from what the memory tells.
-use Rattle.std.proofs.Common.{◌≡◌, ℕ, zero, suc, ◌+◌, ◌-◌, ◌<◌, ◌≤◌, Bool, true, false, cond, eqb, List, [], ◌∷◌, ◌++◌, length, set, Some, None, Option, sym, refl, ap, ◌∙◌, subst, arith}
+use Rattle.std.proofs.Common.{◌≡◌, ℕ, ◌+◌, ◌-◌, ◌<◌, true, false, eqb, List, [], ◌∷◌, ◌++◌, length, set, Some, Option, sym, ap, ◌∙◌, subst, arith}
 use Rattle.std.proofs.lemmas.Bool.{eq-eqb, ne_eqb}
 use Rattle.memory.specs.declared.Memory as memory
-use Rattle.base.specs.Counting.{sentinel, one}
+use Rattle.base.specs.Counting.{sentinel}
 use Rattle.item_set.specs.declared.slot.ItemSlot.{ItemSlot}
 use Rattle.item_set.specs.declared.slot.ItemSlot.TheVariants.{Occupied, Vacant}
 use Rattle.item_set.specs.declared.set.ItemSet.{ItemSet}
-use Rattle.item_set.specs.Slots.{at, held, next, weigh, tally, anyone}
-use Rattle.item_set.specs.States.{State, standing, appended, filled, taken, takes, granted, freed, freeing, exchanged, swapping}
+use Rattle.item_set.specs.Slots.{at, held, next, weigh, anyone}
+use Rattle.item_set.specs.States.{State, standing, taken, granted, freed, freeing, exchanged, swapping}
 use Rattle.item_set.specs.Chains.{Linked}
 use Rattle.item_set.specs.Sets.{meaning, Ready}
 use Rattle.item_set.proofs.Tally.{tally_set}

@@ -1,5 +1,5 @@
 -- What a slot that holds a record tells.
-use Rattle.std.proofs.Common.{◌≡◌, ℕ, zero, suc, ◌<◌, List, [], ◌∷◌, length, Some, None, arith}
+use Rattle.std.proofs.Common.{◌≡◌, ℕ, zero, suc, ◌<◌, List, [], ◌∷◌, length, Some, arith}
 use Rattle.base.proofs.Options.{none_some}
 use Rattle.item_set.specs.declared.slot.ItemSlot.{ItemSlot}
 use Rattle.item_set.specs.declared.slot.ItemSlot.TheVariants.{Occupied, Vacant}

@@ -1,13 +1,12 @@
 -- The free chain, as slots are freed and taken.
-use Rattle.std.proofs.Common.{◌≡◌, ℕ, zero, suc, ◌+◌, ◌<◌, ◌≤◌, Bool, true, false, cond, eqb, List, [], ◌∷◌, ◌++◌, length, get_or, set, sym, refl, ap, ◌∙◌, subst, arith}
-use Rattle.std.specs.List.{AllByRecursion}
+use Rattle.std.proofs.Common.{◌≡◌, ℕ, suc, ◌+◌, ◌<◌, ◌≤◌, Bool, true, false, cond, eqb, List, [], ◌∷◌, ◌++◌, length, set, refl, ap, arith}
 use Rattle.std.proofs.lemmas.List.{length-set, length_push, get_or-set_same, get_or-set_other, get_or_append_left}
 use Rattle.std.proofs.lemmas.Bool.{eq-eqb, ne_eqb}
 use Rattle.base.specs.Counting.{sentinel, one}
 use Rattle.item_set.specs.declared.slot.ItemSlot.{ItemSlot}
 use Rattle.item_set.specs.declared.slot.ItemSlot.TheVariants.{Occupied, Vacant}
 use Rattle.item_set.specs.Slots.{at, next, weigh, tally, anyone}
-use Rattle.item_set.specs.States.{State, standing, freed, exchanged, appended, filled, taken, takes}
+use Rattle.item_set.specs.States.{State, standing, freed, exchanged, appended, filled, taken}
 use Rattle.item_set.specs.Chains.{Avoids, Chain, Linked}
 use Rattle.item_set.proofs.Tally.{tally_set, tally_push}
 

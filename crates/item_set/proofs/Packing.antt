@@ -1,5 +1,5 @@
 -- Slots as they are compacted: the records moved forward so far, and where each slot went.
-use Rattle.std.proofs.Common.{◌≡◌, ℕ, zero, suc, ◌+◌, ◌<◌, ◌≤◌, Bool, true, false, cond, eqb, ltb, List, [], ◌∷◌, ◌++◌, length, get_or, take, drop, set, Some, None, Option, sym, refl, ap, ◌∙◌, subst, append_assoc, add-zero, add-one, arith, drop-cons, take-suc, drop-set-lt}
+use Rattle.std.proofs.Common.{◌≡◌, ℕ, suc, ◌+◌, ◌<◌, ◌≤◌, Bool, true, false, cond, eqb, ltb, List, [], ◌∷◌, ◌++◌, length, get_or, take, drop, set, Some, None, sym, refl, ap, ◌∙◌, subst, append_assoc, add-zero, add-one, arith, drop-cons, take-suc, drop-set-lt}
 use lib.Seq.{take-set-le, set-append_seam, take-length}
 use Rattle.std.proofs.lemmas.List.{length-set, length-take-le, length_push, get_or-set_same, append-nil}
 use Rattle.std.proofs.lemmas.Bool.{ne_eqb, le-ltb, false≢true}

@@ -1,5 +1,5 @@
 -- What a set of slots means, and when it is well made.
-use Rattle.std.specs.Prelude.{◌≡◌, ℕ, ◌≤◌}
+use Rattle.std.specs.Prelude.{◌≡◌, ◌≤◌}
 use Rattle.memory.specs.declared.Memory as memory
 use Rattle.item_set.specs.declared.slot.ItemSlot.{ItemSlot}
 use Rattle.item_set.specs.declared.set.ItemSet.{ItemSet}

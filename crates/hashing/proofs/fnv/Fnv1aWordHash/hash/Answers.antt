@@ -1,4 +1,4 @@
-use Rattle.std.proofs.Common.{◌≡◌, fold, sym, ap, ◌∙◌}
+use Rattle.std.proofs.Common.{fold, sym, ap, ◌∙◌}
 use Rattle.hashing.specs.Fnv.{mixed, octets, fnv1a_words}
 use Rattle.hashing.proofs.fnv.Fnv1aWordHash.hash.Goals as goal
 

@@ -1,7 +1,5 @@
-use Rattle.std.proofs.Common.{◌≡◌, Bool, true, List, sym, refl, ap, ◌∙◌}
-use Rattle.memory.specs.Refusals.{code}
+use Rattle.std.proofs.Common.{true, sym, refl, ap, ◌∙◌}
 use Rattle.memory.proofs.Storing.{write_sets}
-use Rattle.item_set.specs.declared.slot.ItemSlot.{ItemSlot}
 use Rattle.item_set.specs.declared.slot.ItemSlot.TheVariants.{Occupied}
 use Rattle.item_set.specs.States.{advancing}
 use Rattle.item_set.proofs.set.ItemSet.advance.Goals as goal

@@ -1,10 +1,8 @@
-use Rattle.std.proofs.Common.{◌≡◌, ℕ, ◌+◌, ◌<◌, ◌≤◌, Bool, true, false, List, length, take, set, Some, sym, refl, ap, ◌∙◌, subst, arith}
+use Rattle.std.proofs.Common.{◌≡◌, ℕ, ◌+◌, ◌<◌, ◌≤◌, Bool, List, length, take, set, Some, sym, refl, ap, ◌∙◌, subst, arith}
 use Rattle.base.specs.Counting.{sentinel}
-use Rattle.item_set.specs.declared.slot.ItemSlot.{ItemSlot}
 use Rattle.item_set.specs.declared.remap.IndexRemap.TheVariants.{Permuted}
 use Rattle.item_set.specs.Compacting.{compacts, noted}
 use Rattle.item_set.specs.Sets.{meaning, Ready}
-use Rattle.item_set.specs.Slots.{at, held}
 use Rattle.item_set.specs.States.{State, closed, packed}
 use Rattle.item_set.proofs.Packing.{Packing, packing_none, packing_moved, packing_left, packing_all, ready_packed, compacting_packs}
 use Rattle.item_set.proofs.set.ItemSet.compact.Goals as goal

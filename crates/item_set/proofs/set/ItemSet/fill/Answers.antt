@@ -1,4 +1,4 @@
-use Rattle.std.proofs.Common.{◌≡◌, Ok, Err, sym, ap, ◌∙◌, arith}
+use Rattle.std.proofs.Common.{Ok, Err, ◌∙◌, arith}
 use Rattle.memory.proofs.Storing.{write_cases}
 use Rattle.item_set.specs.declared.slot.ItemSlot.TheVariants.{Occupied}
 use Rattle.item_set.specs.Sets.{meaning, Ready}

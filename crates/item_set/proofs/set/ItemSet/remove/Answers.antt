@@ -1,8 +1,8 @@
-use Rattle.std.proofs.Common.{◌≡◌, Ok, Err, sym, ap, ◌∙◌, arith}
+use Rattle.std.proofs.Common.{Ok, Err, sym, ap, ◌∙◌, arith}
 use Rattle.memory.proofs.Storing.{write_cases}
 use Rattle.item_set.specs.declared.slot.ItemSlot.TheVariants.{Vacant}
-use Rattle.item_set.specs.Slots.{at, held}
-use Rattle.item_set.specs.Sets.{meaning, Ready}
+use Rattle.item_set.specs.Slots.{at}
+use Rattle.item_set.specs.Sets.{meaning}
 use Rattle.item_set.proofs.Growing.{freed_at, ready_freed}
 use Rattle.item_set.proofs.Holding.{occupied, occupied_within}
 use Rattle.item_set.proofs.set.ItemSet.remove.Goals as goal

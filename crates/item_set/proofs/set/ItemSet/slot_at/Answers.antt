@@ -1,4 +1,4 @@
-use Rattle.std.proofs.Common.{◌≡◌, Ok, Err, sym, ◌∙◌}
+use Rattle.std.proofs.Common.{Ok, Err, sym, ◌∙◌}
 use Rattle.std.proofs.lemmas.List.{get_or_past, get_or_default}
 use Rattle.base.specs.Counting.{sentinel}
 use Rattle.memory.proofs.Storing.{read_cases}
