@@ -44,3 +44,8 @@ pub enum MapRefusal<T> {
     Full,
     NotThere,
 }
+
+// What a caller that lends a scratch to a shrink may be refused: the scratch is shorter than the slots. Nothing is changed
+// then.
+#[derive(Clone, Copy, PartialEq, Eq, Debug)]
+pub struct ScratchShort;
