@@ -1,1 +1,2 @@
 mod Substituting
+mod Shrinking

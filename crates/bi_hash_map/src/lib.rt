@@ -10,6 +10,7 @@ ghost use Rattle.item_set.specs.Slots.{at, held, shown};
 ghost use Rattle.item_set.specs.States.{fresh};
 ghost use Rattle.model.specs.Answers.{goes, counted};
 ghost use Rattle.model.specs.Model.{equal, seen, shares, step, insert as inserts, overwrite, replace as replaces, look1, look2, look12, remove1 as removes1, remove2 as removes2, remove12, retain as retains, count};
+ghost use Rattle.model.specs.Shrinking.{shrinking, shrunk, with_scratch};
 ghost use Rattle.model.specs.Told.{shared, in_order, inserted, overwritten, looked};
 
 use hash_table::HashTable;
@@ -24,7 +25,7 @@ use map_steps::overwrite::{commit_insert_overwrite, prepare_insert_overwrite};
 use map_steps::removal::remove_found;
 use map_steps::{equality, removal};
 use memory::Memory;
-use model::{Displaced, DuplicateItem, Duplicates, Found, MapRefusal, Overwritten};
+use model::{Displaced, DuplicateItem, Duplicates, Found, MapRefusal, Overwritten, ScratchShort};
 
 // The records that two searches found, by ascending slot, and one that both found once.
 fn in_order<T: Copy>(first: Option<Found<T>>, second: Option<Found<T>>) -> Option<Duplicates<T>>
@@ -246,6 +247,19 @@ impl<T: BiHashItem, M: Memory<ItemSlot<T>>, A: HashTable, B: HashTable, H: WordH
         ensures step { Sound T.BiHashItem T.K1.Key T.K2.Key M.Memory A.HashTable B.HashTable H.WordHash self.old → goes (map_state M.Memory self.new) (counted result) ≡ step (kind_of T.BiHashItem T.K1.Key T.K2.Key) (map_state M.Memory self.old) (retains (P.Predicate.keeps predicate.now)) }
     {
         removal::retain(&mut self.items, predicate)
+    }
+
+    // Moves the records forward in their order so that no slot is vacant, and answers how many slots are left. The scratch
+    // then has the new slot of each slot, or the sentinel for one that was vacant; it is not touched where none was. Refused,
+    // with nothing done, where a slot is vacant and the scratch is shorter than the slots.
+    pub fn shrink_to_fit(&mut self, scratch: &mut [u32]) -> Result<usize, ScratchShort>
+        ensures sound { Sound T.BiHashItem T.K1.Key T.K2.Key M.Memory A.HashTable B.HashTable H.WordHash self.old → Sound T.BiHashItem T.K1.Key T.K2.Key M.Memory A.HashTable B.HashTable H.WordHash self.new }
+        ensures step { Sound T.BiHashItem T.K1.Key T.K2.Key M.Memory A.HashTable B.HashTable H.WordHash self.old → with_scratch scratch.new (goes (map_state M.Memory self.new) (shrunk result)) ≡ shrinking scratch.old (map_state M.Memory self.old) }
+    {
+        match self.items.compact(scratch) {
+            Some(_) => Ok(self.len()),
+            None => Err(ScratchShort),
+        }
     }
 }
 
