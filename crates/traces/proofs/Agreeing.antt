@@ -10,8 +10,8 @@ use Rattle.item_set.specs.Slots.{tally, shown, anyone}
 use Rattle.item_set.specs.States.{State, fresh, standing}
 use Rattle.item_set.proofs.Tally.{tally_mono}
 use Rattle.model.specs.Answers.{Step, goes, refused}
-use Rattle.model.specs.Model.{Call, insert, has1, has2, shares, admitting, step, WellFormed}
-use Rattle.traces.specs.Runs.{Entry, entered, run, left}
+use Rattle.model.specs.Model.{insert, has1, has2, shares, admitting, step, WellFormed}
+use Rattle.traces.specs.Runs.{Request, made, respond, Entry, entered, run, left}
 use Rattle.traces.specs.Laws.{stood, Among, Balanced, Shares, Kept, AllAlike, crossed, cross, Agreed}
 use Rattle.traces.proofs.Lawful.{Lawful}
 use Rattle.traces.proofs.Tallies.{times_standing}
@@ -67,14 +67,14 @@ module _ {R K1 K2 : Type 0} (kind : Kind R K1 K2) (s : State R) (r : R) where
   )
 
 module _ {R K1 K2 : Type 0} (kind : Kind R K1 K2) (law : Lawful kind) (c : ℕ) (most : c ≤ 4096) where
-  well_at : (cs : List (Call R K1 K2)) → WellFormed kind (left kind (fresh c) cs)
+  well_at : (cs : List (Request R K1 K2)) → WellFormed kind (left kind (fresh c) cs)
   well_at cs = well_left kind law (fresh c) cs (well_fresh kind law c most)
 
   -- what stands after a run from no records
-  stood_at : (cs : List (Call R K1 K2)) → stood [] (run kind (fresh c) cs) ≡ shown anyone (left kind (fresh c) cs).slots
+  stood_at : (cs : List (Request R K1 K2)) → stood [] (run kind (fresh c) cs) ≡ shown anyone (left kind (fresh c) cs).slots
   stood_at cs = stood_run kind (fresh c) cs
 
-  balanced_at : (same : R → R → Bool) → ((a b : R) → Decides (same a b) (a ≡ b)) → (r : R) (cs : List (Call R K1 K2)) → Balanced same r cs (run kind (fresh c) cs)
+  balanced_at : (same : R → R → Bool) → ((a b : R) → Decides (same a b) (a ≡ b)) → (r : R) (cs : List (Request R K1 K2)) → Balanced same r cs (run kind (fresh c) cs)
   balanced_at same tells r cs =
       let s = left kind (fresh c) cs in
       let even = balanced_run kind law (same r) cs (fresh c) (well_fresh kind law c most) in
@@ -83,36 +83,36 @@ module _ {R K1 K2 : Type 0} (kind : Kind R K1 K2) (law : Lawful kind) (c : ℕ) 
         gone = λ n. omega (arith, absent kind law same tells s (well_at cs) r (λ a. n (subst (Among r) (sym (stood_at cs)) a)));
       }
 
-  duplicate_at : (calls : List (Call R K1 K2)) (n : ℕ) (r : R) (e : Entry R) → slice_get calls n ≡ Some (insert r) → slice_get (run kind (fresh c) calls) n ≡ Some e → Decides (eqb e.answer.refusal 1) (Shares kind r (stood [] (take n (run kind (fresh c) calls))))
-  duplicate_at calls n r e ec ee =
-      let s : State R = left kind (fresh c) (take n calls) in
-      let here : entered (step kind s (insert r)) ≡ e = some_same (sym (nth_run kind (fresh c) calls n (insert r) ec) ∙ ee) in
-      let then : stood [] (take n (run kind (fresh c) calls)) ≡ shown anyone s.slots = ap (stood []) (take_run kind n (fresh c) calls) ∙ stood_at (take n calls) in
+  duplicate_at : (trace : List (Request R K1 K2)) (n : ℕ) (r : R) (e : Entry R) → slice_get trace n ≡ Some (made (insert r)) → slice_get (run kind (fresh c) trace) n ≡ Some e → Decides (eqb e.answer.refusal 1) (Shares kind r (stood [] (take n (run kind (fresh c) trace))))
+  duplicate_at trace n r e ec ee =
+      let s : State R = left kind (fresh c) (take n trace) in
+      let here : entered (respond kind s (made (insert r))) ≡ e = some_same (sym (nth_run kind (fresh c) trace n (made (insert r)) ec) ∙ ee) in
+      let then : stood [] (take n (run kind (fresh c) trace)) ≡ shown anyone s.slots = ap (stood []) (take_run kind n (fresh c) trace) ∙ stood_at (take n trace) in
       subst (λ (xs : List R). Decides (eqb e.answer.refusal 1) (Shares kind r xs)) (sym then)
       (subst (λ (x : Entry R). Decides (eqb x.answer.refusal 1) (Shares kind r (shown anyone s.slots))) here (duplicate kind s r))
 
-  pub kept : (calls : List (Call R K1 K2)) → Kept kind calls (run kind (fresh c) calls)
-  kept calls = record {
-    each = length_run kind (fresh c) calls;
-    balanced = λ same tells r n. subst (Balanced same r (take n calls)) (sym (take_run kind n (fresh c) calls)) (balanced_at same tells r (take n calls));
-    duplicates = duplicate_at calls;
+  pub kept : (trace : List (Request R K1 K2)) → Kept kind trace (run kind (fresh c) trace)
+  kept trace = record {
+    each = length_run kind (fresh c) trace;
+    balanced = λ same tells r n. subst (Balanced same r (take n trace)) (sym (take_run kind n (fresh c) trace)) (balanced_at same tells r (take n trace));
+    duplicates = duplicate_at trace;
   }
 
-  pub all_alike : (calls : List (Call R K1 K2)) → AllAlike (run kind (fresh c) calls) (run (crossed kind) (fresh c) (map cross calls))
-  all_alike calls = record {
-    lengths = length_run kind (fresh c) calls ∙ sym (length_run (crossed kind) (fresh c) (map cross calls) ∙ length-map calls cross);
-    entries = alike_fresh kind law c most calls;
+  pub all_alike : (trace : List (Request R K1 K2)) → AllAlike (run kind (fresh c) trace) (run (crossed kind) (fresh c) (map cross trace))
+  all_alike trace = record {
+    lengths = length_run kind (fresh c) trace ∙ sym (length_run (crossed kind) (fresh c) (map cross trace) ∙ length-map trace cross);
+    entries = alike_fresh kind law c most trace;
   }
 
-pub agreed : {R K1 K2 : Type 0} (kind : Kind R K1 K2) → Lawful kind → (c : ℕ) → c ≤ 4096 → (calls : List (Call R K1 K2)) (first second : List (Entry R)) (mirror : List (Entry (Crossed R)))
-    → first ≡ run kind (fresh c) calls → second ≡ run kind (fresh c) calls → mirror ≡ run (crossed kind) (fresh c) (map cross calls)
-    → Agreed kind c calls first second mirror
-agreed {R} kind law c most calls first second mirror e1 e2 e3 = record {
+pub agreed : {R K1 K2 : Type 0} (kind : Kind R K1 K2) → Lawful kind → (c : ℕ) → c ≤ 4096 → (trace : List (Request R K1 K2)) (first second : List (Entry R)) (mirror : List (Entry (Crossed R)))
+    → first ≡ run kind (fresh c) trace → second ≡ run kind (fresh c) trace → mirror ≡ run (crossed kind) (fresh c) (map cross trace)
+    → Agreed kind c trace first second mirror
+agreed {R} kind law c most trace first second mirror e1 e2 e3 = record {
   model = e1;
   crossed_model = e3;
   same = e2 ∙ sym e1;
-  alike = subst (λ (x : List (Entry R)). AllAlike x mirror) (sym e1) (subst (AllAlike (run kind (fresh c) calls)) (sym e3) (all_alike kind law c most calls));
-  kept = subst (Kept kind calls) (sym e1) (kept kind law c most calls);
-  kept_second = subst (Kept kind calls) (sym e2) (kept kind law c most calls);
-  kept_crossed = subst (Kept (crossed kind) (map cross calls)) (sym e3) (kept (crossed kind) (lawful_crossed kind law) c most (map cross calls));
+  alike = subst (λ (x : List (Entry R)). AllAlike x mirror) (sym e1) (subst (AllAlike (run kind (fresh c) trace)) (sym e3) (all_alike kind law c most trace));
+  kept = subst (Kept kind trace) (sym e1) (kept kind law c most trace);
+  kept_second = subst (Kept kind trace) (sym e2) (kept kind law c most trace);
+  kept_crossed = subst (Kept (crossed kind) (map cross trace)) (sym e3) (kept (crossed kind) (lawful_crossed kind law) c most (map cross trace));
 }

@@ -1,4 +1,4 @@
--- What a call takes in, hands back and rejects makes up the difference between what stood before it and what stands after it.
+-- What a request takes in, hands back and rejects makes up the difference between what stood before it and what stands after it.
 use Rattle.std.proofs.Common.{◌≡◌, ℕ, ◌+◌, Bool, true, false, cond, eqb, ltb, leb, List, [], ◌∷◌, length, refl, ap, ◌∙◌, arith}
 use Rattle.std.proofs.lemmas.Bool.{cond_both}
 use Rattle.base.specs.Counting.{one, times}
@@ -6,13 +6,13 @@ use Rattle.item.specs.Kinds.{Kind}
 use Rattle.item_set.specs.Slots.{tally, shown, anyone}
 use Rattle.item_set.specs.States.{State, standing}
 use Rattle.model.specs.Answers.{Step}
-use Rattle.model.specs.Model.{Call, insert, overwrite, replace, look1, look2, look12, remove1, remove2, remove12, retain, shrink, count, both, has1, has2, shares, step, WellFormed}
-use Rattle.traces.specs.Runs.{run, left}
-use Rattle.traces.specs.Laws.{accepted, took, taken_in, gave, handed_back, refuses, rejected}
+use Rattle.model.specs.Model.{Call, insert, overwrite, replace, look1, look2, look12, remove1, remove2, remove12, retain, count, both, has1, has2, shares, WellFormed}
+use Rattle.traces.specs.Runs.{Request, made, shrink, respond, run, left}
+use Rattle.traces.specs.Laws.{by_call, accepted, took, taken_in, gave, handed_back, refuses, rejected}
 use Rattle.traces.proofs.Lawful.{Lawful}
 use Rattle.traces.proofs.Tallies.{unless, tally_split, times_append, times_standing, times_failing}
-use Rattle.traces.proofs.Totals.{TotalStep, totals, t_admit, t_insert, t_overwrite, t_replace, t_look, t_remove, t_shrink, t_step, Follows}
-use Rattle.traces.proofs.Keeping.{follows_step, well_step}
+use Rattle.traces.proofs.Totals.{TotalStep, totals, t_admit, t_insert, t_overwrite, t_replace, t_look, t_remove, t_shrink, t_step, t_respond, Follows}
+use Rattle.traces.proofs.Keeping.{follows_request, well_step}
 
 -- one call, counted by a test q
 module _ {R K1 K2 : Type 0} (kind : Kind R K1 K2) (b : State R) (q : R → Bool) where
@@ -77,21 +77,35 @@ module _ {R K1 K2 : Type 0} (kind : Kind R K1 K2) (b : State R) (q : R → Bool)
   balance (remove2 k) st h = omega (arith, h.counts q, h.shows q, goes_remove (has2 kind k))
   balance (remove12 k l) st h = omega (arith, h.counts q, h.shows q, goes_remove (both (has1 kind k) (has2 kind l)))
   balance (retain p) st h = omega (arith, h.counts q, times_failing p q (shown anyone b.slots), times_standing (both (unless p) q) b.slots, tally_split p q b.slots)
-  balance (shrink ws) st h = omega (arith, h.counts q, stays_shrink (length ws))
   balance count st h = omega (arith, h.counts q)
 
--- and a list of calls
+  -- or one shrink
+  abbrev takes : Request R K1 K2 → Step R → List R
+  takes c st = by_call (λ d. took d st.answer) c
+
+  abbrev gives : Request R K1 K2 → Step R → List R
+  gives c st = by_call (λ d. gave d st.answer) c
+
+  abbrev rejects : Request R K1 K2 → List R
+  rejects c = by_call (λ d. refuses d (shown anyone b.slots)) c
+
+  balance_request : (c : Request R K1 K2) (st : Step R) → Follows st (t_respond kind (totals b) c) → times q (takes c st) + tally q b.slots ≡ tally q st.after.slots + times q (gives c st) + times q (rejects c)
+  balance_request (made c) st h = balance c st h
+  balance_request (shrink ws) st h = omega (arith, h.counts q, stays_shrink (length ws))
+
+-- and a trace
 module _ {R K1 K2 : Type 0} (kind : Kind R K1 K2) (law : Lawful kind) (q : R → Bool) where
-  pub balanced_run : (cs : List (Call R K1 K2)) (s : State R) → WellFormed kind s →
+  pub balanced_run : (cs : List (Request R K1 K2)) (s : State R) → WellFormed kind s →
       times q (taken_in cs (run kind s cs)) + tally q s.slots ≡ tally q (left kind s cs).slots + times q (handed_back cs (run kind s cs)) + times q (rejected (shown anyone s.slots) cs (run kind s cs))
   balanced_run [] s w = omega arith
   balanced_run (c ∷ cs) s w =
-      let t = (step kind s c).after in
+      let st = (respond kind s c).step in
+      let t = st.after in
       omega (
         arith,
-        balance kind s q c (step kind s c) (follows_step kind s c w),
+        balance_request kind s q c st (follows_request kind s c w),
         balanced_run cs t (well_step kind law s c w),
-        times_append q (took c (step kind s c).answer) (taken_in cs (run kind t cs)),
-        times_append q (gave c (step kind s c).answer) (handed_back cs (run kind t cs)),
-        times_append q (refuses c (shown anyone s.slots)) (rejected (shown anyone t.slots) cs (run kind t cs)),
+        times_append q (takes kind s q c st) (taken_in cs (run kind t cs)),
+        times_append q (gives kind s q c st) (handed_back cs (run kind t cs)),
+        times_append q (rejects kind s q c) (rejected (shown anyone t.slots) cs (run kind t cs)),
       )

@@ -6,8 +6,7 @@ use Rattle.base.proofs.Options.{none_some, some_same}
 use Rattle.item.specs.Kinds.{Kind}
 use Rattle.item_set.specs.Slots.{shown, anyone}
 use Rattle.item_set.specs.States.{State}
-use Rattle.model.specs.Model.{Call, step}
-use Rattle.traces.specs.Runs.{Entry, entered, run, left}
+use Rattle.traces.specs.Runs.{Request, respond, Entry, entered, run, left}
 use Rattle.traces.specs.Laws.{stood, Among}
 
 module _ {R : Type 0} (m : R → Bool) where
@@ -33,23 +32,23 @@ module _ {R : Type 0} (m : R → Bool) where
   passing (r ∷ rs) h = passing_by r rs (m r) refl h (passing rs)
 
 module _ {R K1 K2 : Type 0} (kind : Kind R K1 K2) where
-  pub length_run : (s : State R) (cs : List (Call R K1 K2)) → length (run kind s cs) ≡ length cs
+  pub length_run : (s : State R) (cs : List (Request R K1 K2)) → length (run kind s cs) ≡ length cs
   length_run s [] = refl
-  length_run s (c ∷ cs) = ap suc (length_run (step kind s c).after cs)
+  length_run s (c ∷ cs) = ap suc (length_run (respond kind s c).step.after cs)
 
-  -- the first entries are those of the first calls
-  pub take_run : (n : ℕ) (s : State R) (cs : List (Call R K1 K2)) → take n (run kind s cs) ≡ run kind s (take n cs)
+  -- the first entries are those of the first requests
+  pub take_run : (n : ℕ) (s : State R) (cs : List (Request R K1 K2)) → take n (run kind s cs) ≡ run kind s (take n cs)
   take_run zero s cs = refl
   take_run (suc n) s [] = refl
-  take_run (suc n) s (c ∷ cs) = ap (λ (es : List (Entry R)). entered (step kind s c) ∷ es) (take_run n (step kind s c).after cs)
+  take_run (suc n) s (c ∷ cs) = ap (λ (es : List (Entry R)). entered (respond kind s c) ∷ es) (take_run n (respond kind s c).step.after cs)
 
   -- the last entry lists what stands in the state that is left
-  pub stood_run : (s : State R) (cs : List (Call R K1 K2)) → stood (shown anyone s.slots) (run kind s cs) ≡ shown anyone (left kind s cs).slots
+  pub stood_run : (s : State R) (cs : List (Request R K1 K2)) → stood (shown anyone s.slots) (run kind s cs) ≡ shown anyone (left kind s cs).slots
   stood_run s [] = refl
-  stood_run s (c ∷ cs) = stood_run (step kind s c).after cs
+  stood_run s (c ∷ cs) = stood_run (respond kind s c).step.after cs
 
-  -- an entry is that of its call, made on what the calls before it left
-  pub nth_run : (s : State R) (cs : List (Call R K1 K2)) (n : ℕ) (c : Call R K1 K2) → slice_get cs n ≡ Some c → slice_get (run kind s cs) n ≡ Some (entered (step kind (left kind s (take n cs)) c))
+  -- an entry is that of its request, made on what the requests before it left
+  pub nth_run : (s : State R) (cs : List (Request R K1 K2)) (n : ℕ) (c : Request R K1 K2) → slice_get cs n ≡ Some c → slice_get (run kind s cs) n ≡ Some (entered (respond kind (left kind s (take n cs)) c))
   nth_run s [] n c e = absurd (none_some e)
-  nth_run s (d ∷ cs) zero c e = ap (λ (x : Call R K1 K2). Some (entered (step kind s x))) (some_same e)
-  nth_run s (d ∷ cs) (suc n) c e = nth_run (step kind s d).after cs n c e
+  nth_run s (d ∷ cs) zero c e = ap (λ (x : Request R K1 K2). Some (entered (respond kind s x))) (some_same e)
+  nth_run s (d ∷ cs) (suc n) c e = nth_run (respond kind s d).step.after cs n c e

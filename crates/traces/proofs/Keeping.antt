@@ -1,4 +1,4 @@
--- Every call keeps a state well formed, and so does a list of calls.
+-- Every request keeps a state well formed, and so does a trace.
 use Rattle.std.proofs.Common.{◌≡◌, ℕ, ◌+◌, ◌≤◌, Bool, true, false, not, ◌&&◌, eqb, ltb, leb, List, [], ◌∷◌, length, refl, arith}
 use Rattle.std.proofs.lemmas.Bool.{eqb-true, and_parts, and_from, cond_both, or_left, or_right}
 use Rattle.base.specs.Counting.{one}
@@ -6,11 +6,11 @@ use Rattle.item.specs.Kinds.{Kind}
 use Rattle.item_set.specs.Slots.{tally}
 use Rattle.item_set.specs.States.{State, fresh, standing}
 use Rattle.item_set.proofs.Tally.{tally_mono}
-use Rattle.model.specs.Model.{Call, insert, overwrite, replace, look1, look2, look12, remove1, remove2, remove12, retain, shrink, count, both, has1, has2, shares, step, WellFormed}
+use Rattle.model.specs.Model.{Call, insert, overwrite, replace, look1, look2, look12, remove1, remove2, remove12, retain, count, both, has1, has2, shares, step, WellFormed}
 use Rattle.traces.proofs.Lawful.{Lawful}
-use Rattle.traces.specs.Runs.{left}
+use Rattle.traces.specs.Runs.{Request, made, shrink, respond, left}
 use Rattle.traces.proofs.Tallies.{unless, tally_never, tally_split, tally_least}
-use Rattle.traces.proofs.Totals.{TotalStep, totals, t_admit, t_look, t_remove, t_step, Follows}
+use Rattle.traces.proofs.Totals.{TotalStep, totals, t_admit, t_look, t_remove, t_step, t_respond, Follows}
 use Rattle.traces.proofs.Steps.{follows_insert, follows_overwrite, follows_replace, follows_look, follows_remove, follows_retain, follows_shrink, follows_count}
 
 not_and : (a : Bool) → (not a && a) ≡ false
@@ -22,7 +22,7 @@ module _ {R K1 K2 : Type 0} (kind : Kind R K1 K2) where
   few_both b k l s = omega (arith, s.once1 k, tally_least (has1 kind k) (has2 kind l) b.slots)
 
   -- every step is as its counts say
-  pub follows_step : (b : State R) (c : Call R K1 K2) → WellFormed kind b → Follows (step kind b c) (t_step kind (totals b) c)
+  follows_step : (b : State R) (c : Call R K1 K2) → WellFormed kind b → Follows (step kind b c) (t_step kind (totals b) c)
   follows_step b (insert r) s = follows_insert (has1 kind (kind.key1 r)) (has2 kind (kind.key2 r)) r b s.linked
   follows_step b (overwrite r) s = follows_overwrite (has1 kind (kind.key1 r)) (has2 kind (kind.key2 r)) r b s.linked (s.once1 (kind.key1 r)) (s.once2 (kind.key2 r))
   follows_step b (replace r) s = follows_replace (has1 kind (kind.key1 r)) (has2 kind (kind.key2 r)) r b s.linked (s.once1 (kind.key1 r)) (s.once2 (kind.key2 r))
@@ -33,8 +33,11 @@ module _ {R K1 K2 : Type 0} (kind : Kind R K1 K2) where
   follows_step b (remove2 k) s = follows_remove (has2 kind k) b s.linked (s.once2 k)
   follows_step b (remove12 k l) s = follows_remove (both (has1 kind k) (has2 kind l)) b s.linked (few_both b k l s)
   follows_step b (retain p) s = follows_retain p b s.linked
-  follows_step b (shrink ws) s = follows_shrink ws b s.linked
   follows_step b count s = follows_count b s.linked
+
+  pub follows_request : (b : State R) (c : Request R K1 K2) → WellFormed kind b → Follows (respond kind b c).step (t_respond kind (totals b) c)
+  follows_request b (made c) s = follows_step b c s
+  follows_request b (shrink ws) s = follows_shrink ws b s.linked
 
 -- a key finds at most one slot afterwards: `test` is the test for a key
 module _ {R K1 K2 : Type 0} (kind : Kind R K1 K2) (b : State R) (test : R → Bool) (few : tally test b.slots ≤ 1) (joins : (r x : R) → test r ≡ true → test x ≡ true → shares kind r x ≡ true) where
@@ -74,8 +77,11 @@ module _ {R K1 K2 : Type 0} (kind : Kind R K1 K2) (b : State R) (test : R → Bo
   few_step (remove2 l) = few_remove (has2 kind l)
   few_step (remove12 k l) = few_remove (both (has1 kind k) (has2 kind l))
   few_step (retain p) = omega (arith, few, tally_split p test b.slots)
-  few_step (shrink ws) = cond_both (eqb (standing b) (length b.slots)) _ _ Few (λ _. few) (λ _. cond_both (ltb (length ws) (length b.slots)) _ _ Few (λ _. few) (λ _. few))
   few_step count = few
+
+  few_request : (c : Request R K1 K2) → Few (t_respond kind (totals b) c)
+  few_request (made c) = few_step c
+  few_request (shrink ws) = cond_both (eqb (standing b) (length b.slots)) _ _ Few (λ _. few) (λ _. cond_both (ltb (length ws) (length b.slots)) _ _ Few (λ _. few) (λ _. few))
 
 module _ {R K1 K2 : Type 0} (kind : Kind R K1 K2) (law : Lawful kind) where
   -- two records that have one key share a key
@@ -85,18 +91,18 @@ module _ {R K1 K2 : Type 0} (kind : Kind R K1 K2) (law : Lawful kind) where
   joins2 : (k : K2) (r x : R) → has2 kind k r ≡ true → has2 kind k x ≡ true → shares kind r x ≡ true
   joins2 k r x er ex = or_right (has1 kind (kind.key1 r) x) (has2 kind (kind.key2 r) x) (law.trans2 (kind.key2 r) k (kind.key2 x) (law.sym2 k (kind.key2 r) er) ex)
 
-  pub well_step : (s : State R) (c : Call R K1 K2) → WellFormed kind s → WellFormed kind (step kind s c).after
+  pub well_step : (s : State R) (c : Request R K1 K2) → WellFormed kind s → WellFormed kind (respond kind s c).step.after
   well_step s c w =
-      let h = follows_step kind s c w in
+      let h = follows_request kind s c w in
       record {
         linked = h.linked;
-        once1 = λ k. omega (arith, h.counts (has1 kind k), few_step kind s (has1 kind k) (w.once1 k) (joins1 k) c);
-        once2 = λ k. omega (arith, h.counts (has2 kind k), few_step kind s (has2 kind k) (w.once2 k) (joins2 k) c);
+        once1 = λ k. omega (arith, h.counts (has1 kind k), few_request kind s (has1 kind k) (w.once1 k) (joins1 k) c);
+        once2 = λ k. omega (arith, h.counts (has2 kind k), few_request kind s (has2 kind k) (w.once2 k) (joins2 k) c);
       }
 
   pub well_fresh : (c : ℕ) → c ≤ 4096 → WellFormed kind (fresh c)
   well_fresh c h = record { linked = record { free = []; chain = refl; whole = refl; within = omega arith; small = h }; once1 = λ k. omega arith; once2 = λ k. omega arith }
 
-  pub well_left : (s : State R) (cs : List (Call R K1 K2)) → WellFormed kind s → WellFormed kind (left kind s cs)
+  pub well_left : (s : State R) (cs : List (Request R K1 K2)) → WellFormed kind s → WellFormed kind (left kind s cs)
   well_left s [] w = w
-  well_left s (c ∷ cs) w = well_left (step kind s c).after cs (well_step s c w)
+  well_left s (c ∷ cs) w = well_left (respond kind s c).step.after cs (well_step s c w)

@@ -10,9 +10,10 @@ use Rattle.item_set.specs.States.{State, standing, freed, taken}
 use Rattle.item_set.specs.Chains.{Linked}
 use Rattle.item_set.proofs.Tally.{tally_set, tally_some}
 use Rattle.item_set.proofs.Links.{linked_freed, linked_exchanged, taking}
-use Rattle.model.specs.Answers.{Answer, Step, goes, refused, placed, counted, with_scratch}
+use Rattle.model.specs.Answers.{Answer, Step, goes, refused, placed, counted}
 use Rattle.model.specs.declared.Found.{Found}
-use Rattle.model.specs.Model.{either, both, find, admitting, inserting, seen, looking, freed_at, item_of, without, cleared, ousted, displacing, overwriting, exchanging, substituting, removing, judged, retained, counting, retaining, packing, shrinking}
+use Rattle.model.specs.Model.{either, both, find, admitting, inserting, seen, looking, freed_at, item_of, without, cleared, ousted, displacing, overwriting, exchanging, substituting, removing, judged, retained, counting, retaining}
+use Rattle.model.specs.Shrinking.{ScratchStep, packing, shrinking}
 use Rattle.model.proofs.Finding.{tally_only, tally_either}
 use Rattle.model.proofs.Sharing.{Tells, tells}
 use Rattle.model.proofs.Displacing.{count_freed}
@@ -34,8 +35,8 @@ module _ {R : Type 0} where
   follows_cond false x y tx ty f g = g refl
 
   -- a call that leaves the state alone
-  still : (b : State R) (a : Answer R) (f : (R → Bool) → ℕ) → Linked b → ((q : R → Bool) → times q a.records ≡ f q) → Follows (goes b a) (total_step (totals b) a.refusal a.count f (length a.scratch))
-  still b a f s h = record { linked = s; counts = λ q. refl; size = refl; room = refl; refusal = refl; count = refl; shows = h; wide = refl }
+  still : (b : State R) (a : Answer R) (f : (R → Bool) → ℕ) → Linked b → ((q : R → Bool) → times q a.records ≡ f q) → Follows (goes b a) (total_step (totals b) a.refusal a.count f)
+  still b a f s h = record { linked = s; counts = λ q. refl; size = refl; room = refl; refusal = refl; count = refl; shows = h }
 
   -- what freeing the record that a test finds comes to
   record Drops (m : R → Bool) (b c : State R) (rs : List R) : Type 0 where
@@ -91,7 +92,7 @@ module _ {R : Type 0} where
       follows_cond (leb b.capacity (standing b)) _ _ _ _
       (λ e. still b (refused 2 []) nothing s (λ q. refl))
       (λ e. let t = taking b r s (λ _. leb-false b.capacity (standing b) e) in
-      record { linked = t.linked; counts = t.counts; size = size_taken (standing b) (length b.slots) (length (taken b r).slots) t.at_end t.inside (omega (arith, s.whole)); room = t.same_capacity; refusal = refl; count = refl; shows = λ q. refl; wide = refl })
+      record { linked = t.linked; counts = t.counts; size = size_taken (standing b) (length b.slots) (length (taken b r).slots) t.at_end t.inside (omega (arith, s.whole)); room = t.same_capacity; refusal = refl; count = refl; shows = λ q. refl })
 
   pub follows_insert : (m n : R → Bool) (r : R) (b : State R) → Linked b → Follows (inserting m n r b) (t_insert (either m n) r (totals b))
   follows_insert m n r b s =
@@ -114,7 +115,6 @@ module _ {R : Type 0} where
         refusal = refl;
         count = refl;
         shows = x.out;
-        wide = refl;
       }
 
   pub follows_overwrite : (m n : R → Bool) (r : R) (b : State R) → Linked b → tally m b.slots ≤ 1 → tally n b.slots ≤ 1 → Follows (overwriting m n r b) (t_overwrite (either m n) r (totals b))
@@ -140,7 +140,6 @@ module _ {R : Type 0} where
         refusal = refl;
         count = refl;
         shows = λ q. omega (arith, only q);
-        wide = refl;
       }
 
   pub follows_replace : (m n : R → Bool) (r : R) (b : State R) → Linked b → tally m b.slots ≤ 1 → tally n b.slots ≤ 1 → Follows (substituting m n r b) (t_replace (either m n) r (totals b))
@@ -167,7 +166,7 @@ module _ {R : Type 0} where
   removes_at m b (Some f) s few t =
       let some = tally_some m b.slots f.slot f.item t.0 t.1 t.2 in
       let x = drops_at m b (Some f) s few t in
-      rw (ne_eqb (tally m b.slots) 0 (omega arith)) (record { linked = x.linked; counts = x.remain; size = x.same_length; room = x.same_capacity; refusal = refl; count = refl; shows = x.out; wide = refl })
+      rw (ne_eqb (tally m b.slots) 0 (omega arith)) (record { linked = x.linked; counts = x.remain; size = x.same_length; room = x.same_capacity; refusal = refl; count = refl; shows = x.out })
 
   pub follows_remove : (m : R → Bool) (b : State R) → Linked b → tally m b.slots ≤ 1 → Follows (removing m b) (t_remove m (totals b))
   follows_remove m b s few = removes_at m b (find m 0 b.slots) s few (tells m b.slots _ refl)
@@ -222,11 +221,15 @@ module _ {R : Type 0} where
       let k : Judging p b c (length b.slots) = keeps p b (length b.slots) (omega arith) s in
       let z : tally (unless p) c.slots ≡ 0 = tally_none (unless p) c.slots (λ i l. k.below i (omega (arith, k.same_length))) in
       let l : (q : R → Bool) → tally q c.slots ≡ tally (both p q) b.slots = λ q. omega (arith, tally_split p q c.slots, k.passing q, tally_least (unless p) q c.slots) in
-      record { linked = k.linked; counts = l; size = k.same_length; room = k.same_capacity; refusal = refl; count = l anyone; shows = λ q. refl; wide = refl }
+      record { linked = k.linked; counts = l; size = k.same_length; room = k.same_capacity; refusal = refl; count = l anyone; shows = λ q. refl }
 
   -- shrink
-  follows_pack : (ws : List ℕ) (b : State R) → Linked b → length b.slots ≤ length ws → Follows (packing ws b) (total_step (record { counts = λ q. tally q b.slots; size = standing b; room = b.capacity }) 0 (standing b) nothing (length ws))
-  follows_pack ws b s long = record {
+  shrinks_cond : (t : Bool) (x y : ScratchStep R) (tx ty : TotalStep R) → (t ≡ true → Follows x.step tx) → (t ≡ false → Follows y.step ty) → Follows (cond t x y).step (cond t tx ty)
+  shrinks_cond true x y tx ty f g = f refl
+  shrinks_cond false x y tx ty f g = g refl
+
+  follows_pack : (ws : List ℕ) (b : State R) → Linked b → Follows (packing ws b).step (total_step (record { counts = λ q. tally q b.slots; size = standing b; room = b.capacity }) 0 (standing b) nothing)
+  follows_pack ws b s = record {
     linked = record {
       free = [];
       chain = refl;
@@ -240,16 +243,28 @@ module _ {R : Type 0} where
     refusal = refl;
     count = refl;
     shows = λ q. refl;
-    wide = simp (length-append, length-drop) (omega (arith, length_moves 0 b.slots));
   }
 
-  pub follows_shrink : (ws : List ℕ) (b : State R) → Linked b → Follows (shrinking ws b) (t_shrink (length ws) (totals b))
+  pub follows_shrink : (ws : List ℕ) (b : State R) → Linked b → Follows (shrinking ws b).step (t_shrink (length ws) (totals b))
   follows_shrink ws b s =
-      follows_cond (eqb (standing b) (length b.slots)) _ _ _ _
-      (λ e. still b (with_scratch ws (counted (length b.slots))) nothing s (λ q. refl))
-      (λ e. follows_cond (ltb (length ws) (length b.slots)) _ _ _ _
-      (λ f. still b (with_scratch ws (refused 7 [])) nothing s (λ q. refl))
-      (λ f. follows_pack ws b s (ltb-false (length ws) (length b.slots) f)))
+      shrinks_cond (eqb (standing b) (length b.slots)) _ _ _ _
+      (λ e. still b (counted (length b.slots)) nothing s (λ q. refl))
+      (λ e. shrinks_cond (ltb (length ws) (length b.slots)) _ _ _ _
+      (λ f. still b (refused 7 []) nothing s (λ q. refl))
+      (λ f. follows_pack ws b s))
+
+  -- and its scratch keeps its length
+  abbrev Lasts : List ℕ → ScratchStep R → Type 0
+  Lasts ws x = length x.scratch ≡ length ws
+
+  lasts_pack : (ws : List ℕ) (b : State R) → length b.slots ≤ length ws → Lasts ws (packing ws b)
+  lasts_pack ws b long = simp (length-append, length-drop) (omega (arith, length_moves 0 b.slots))
+
+  pub lasts_shrink : (ws : List ℕ) (b : State R) → Lasts ws (shrinking ws b)
+  lasts_shrink ws b =
+      cond_both (eqb (standing b) (length b.slots)) _ _ (Lasts ws)
+      (λ e. refl)
+      (λ e. cond_both (ltb (length ws) (length b.slots)) _ _ (Lasts ws) (λ f. refl) (λ f. lasts_pack ws b (ltb-false (length ws) (length b.slots) f)))
 
   pub follows_count : (b : State R) → Linked b → Follows (counting b) (t_count (totals b))
   follows_count b s = still b (counted (standing b)) nothing s (λ q. refl)

@@ -2,7 +2,7 @@
 // model, and the laws that hold of every run.
 #![tactic(auto)]
 
-use model::{Found, MapRefusal, Overwritten};
+use model::{Found, MapRefusal, Overwritten, ScratchShort};
 
 // A call of a map. A shrink brings a scratch of its own.
 #[derive(Drop)]
@@ -28,7 +28,7 @@ pub enum Outcome<T> {
     Overwritten(Result<Overwritten<T>, MapRefusal<T>>),
     Found(Result<Found<T>, MapRefusal<T>>),
     Counted(usize),
-    Shrunk(Result<usize, MapRefusal<T>>),
+    Shrunk(Result<usize, ScratchShort>),
 }
 
 // What a call left behind: its answer, the scratch that it brought as it is then, and the standing records by ascending
