@@ -6,11 +6,11 @@ ghost use Rattle.bi_hash_map.specs.Maps.{map_state, Sound};
 ghost use Rattle.item.specs.Kinds.{kind_of};
 ghost use Rattle.item_set.specs.Slots.{anyone, shown};
 ghost use Rattle.model.specs.Answers.{goes};
-ghost use Rattle.model.specs.Model.{step};
+ghost use Rattle.model.specs.Shrinking.{with_scratch};
 ghost use Rattle.runs.specs.Scratches.{scratch_of};
-ghost use Rattle.traces.specs.Calls.{call_of, trace_of};
+ghost use Rattle.traces.specs.Calls.{request_of, trace_of};
 ghost use Rattle.traces.specs.Logs.{entry_of, log_of, outcome_of};
-ghost use Rattle.traces.specs.Runs.{entered, run as runs_to, left};
+ghost use Rattle.traces.specs.Runs.{entered, respond, run as runs_to, left};
 
 use bi_hash_map::BiHashMap;
 use hash_table::HashTable;
@@ -43,7 +43,7 @@ fn brought<T: BiHashItem, P: Predicate<R = T>>(
     call: &Call<T, T::K1, T::K2, P>,
     heap: Global,
 ) -> Result<Vec<u32>, AllocError>
-    ensures { IfOk result (λ v. v.items ≡ scratch_of call.now) }
+    ensures { IfOk result (λ v. v.items ≡ scratch_of (request_of P.Predicate.keeps call.now)) }
 {
     match call {
         Call::Shrink(scratch) => Vec::from_slice(heap, scratch),
@@ -65,7 +65,7 @@ fn make<
     scratch: &mut [u32],
 ) -> Outcome<T>
     ensures sound { Sound T.BiHashItem T.K1.Key T.K2.Key M.Memory A.HashTable B.HashTable H.WordHash map.old → Sound T.BiHashItem T.K1.Key T.K2.Key M.Memory A.HashTable B.HashTable H.WordHash map.new }
-    ensures step { Sound T.BiHashItem T.K1.Key T.K2.Key M.Memory A.HashTable B.HashTable H.WordHash map.old → scratch.old ≡ scratch_of call.now → goes (map_state M.Memory map.new) (outcome_of result scratch.new) ≡ step (kind_of T.BiHashItem T.K1.Key T.K2.Key) (map_state M.Memory map.old) (call_of P.Predicate.keeps call.now) }
+    ensures step { Sound T.BiHashItem T.K1.Key T.K2.Key M.Memory A.HashTable B.HashTable H.WordHash map.old → scratch.old ≡ scratch_of (request_of P.Predicate.keeps call.now) → with_scratch scratch.new (goes (map_state M.Memory map.new) (outcome_of result)) ≡ respond (kind_of T.BiHashItem T.K1.Key T.K2.Key) (map_state M.Memory map.old) (request_of P.Predicate.keeps call.now) }
 {
     match call {
         Call::Insert(value) => Outcome::Inserted(map.insert(*value)),
@@ -97,8 +97,8 @@ pub fn perform<
     heap: Global,
 ) -> Result<Event<T>, AllocError>
     ensures sound { Sound T.BiHashItem T.K1.Key T.K2.Key M.Memory A.HashTable B.HashTable H.WordHash map.old → Sound T.BiHashItem T.K1.Key T.K2.Key M.Memory A.HashTable B.HashTable H.WordHash map.new }
-    ensures entry { Sound T.BiHashItem T.K1.Key T.K2.Key M.Memory A.HashTable B.HashTable H.WordHash map.old → IfOk result (λ event. entry_of event ≡ entered (step (kind_of T.BiHashItem T.K1.Key T.K2.Key) (map_state M.Memory map.old) (call_of P.Predicate.keeps call.now))) }
-    ensures state { Sound T.BiHashItem T.K1.Key T.K2.Key M.Memory A.HashTable B.HashTable H.WordHash map.old → OnOk result (map_state M.Memory map.new ≡ (step (kind_of T.BiHashItem T.K1.Key T.K2.Key) (map_state M.Memory map.old) (call_of P.Predicate.keeps call.now)).after) }
+    ensures entry { Sound T.BiHashItem T.K1.Key T.K2.Key M.Memory A.HashTable B.HashTable H.WordHash map.old → IfOk result (λ event. entry_of event ≡ entered (respond (kind_of T.BiHashItem T.K1.Key T.K2.Key) (map_state M.Memory map.old) (request_of P.Predicate.keeps call.now))) }
+    ensures state { Sound T.BiHashItem T.K1.Key T.K2.Key M.Memory A.HashTable B.HashTable H.WordHash map.old → OnOk result (map_state M.Memory map.new ≡ (respond (kind_of T.BiHashItem T.K1.Key T.K2.Key) (map_state M.Memory map.old) (request_of P.Predicate.keeps call.now)).step.after) }
 {
     let mut scratch = brought(call, heap)?;
     let outcome = make(map, call, scratch.as_mut_slice());
