@@ -1,7 +1,7 @@
 // What a call left behind, as numbers and records, and its answer as a line shows it.
 use crate::calls::PairCall;
 use item::crossed::Crossed;
-use model::{Displaced, Duplicates, Found, MapRefusal, Overwritten};
+use model::{Displaced, Duplicates, Found, MapRefusal, Overwritten, ScratchShort};
 use std::alloc::{AllocError, Global};
 use traces::{Call, Event, Outcome};
 use worked_cases::Pair;
@@ -55,7 +55,6 @@ fn refused<T: Copy>(refusal: &MapRefusal<T>, heap: Global) -> Result<Answer<T>, 
         }
         MapRefusal::Full => Ok(bare(2, heap)),
         MapRefusal::NotThere => Ok(bare(3, heap)),
-        MapRefusal::ScratchShort => Ok(bare(7, heap)),
     }
 }
 
@@ -117,7 +116,7 @@ fn answer_of<T: Copy>(outcome: &Outcome<T>, heap: Global) -> Result<Answer<T>, A
         Outcome::Inserted(Err(refusal)) => refused(refusal, heap),
         Outcome::Overwritten(Err(refusal)) => refused(refusal, heap),
         Outcome::Found(Err(refusal)) => refused(refusal, heap),
-        Outcome::Shrunk(Err(refusal)) => refused(refusal, heap),
+        Outcome::Shrunk(Err(ScratchShort)) => Ok(bare(7, heap)),
     }
 }
 

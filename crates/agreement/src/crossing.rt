@@ -1,7 +1,7 @@
 // Calls with their keys exchanged, for a map of crossed records.
 ghost use Rattle.std.specs.Prelude.{◌≡◌, map, IfOk};
 ghost use Rattle.agreement.specs.Inside.{keeps_inside};
-ghost use Rattle.traces.specs.Calls.{call_of, trace_of};
+ghost use Rattle.traces.specs.Calls.{request_of, trace_of};
 ghost use Rattle.traces.specs.Laws.{cross};
 
 use item::BiHashItem;
@@ -11,11 +11,11 @@ use std::alloc::{AllocError, Global};
 use traces::Call;
 
 // The call that does to a map of crossed records what a call does to a map of the records themselves.
-pub fn crossed<T: BiHashItem, P: Predicate<R = T>>(
+pub fn crossed<T: BiHashItem, P: Predicate<R = T> + Copy>(
     call: &Call<T, T::K1, T::K2, P>,
     heap: Global,
 ) -> Result<Call<Crossed<T>, T::K2, T::K1, Inside<P>>, AllocError>
-    ensures { IfOk result (λ c. call_of (keeps_inside P.Predicate.keeps) c ≡ cross (call_of P.Predicate.keeps call.now)) }
+    ensures { IfOk result (λ c. request_of (keeps_inside P.Predicate.keeps) c ≡ cross (request_of P.Predicate.keeps call.now)) }
 {
     match call {
         Call::Insert(value) => Ok(Call::Insert(Crossed { inner: *value })),
@@ -36,7 +36,7 @@ pub fn crossed<T: BiHashItem, P: Predicate<R = T>>(
 }
 
 // A trace of such calls.
-pub fn crossed_trace<T: BiHashItem, P: Predicate<R = T>>(
+pub fn crossed_trace<T: BiHashItem, P: Predicate<R = T> + Copy>(
     trace: &[Call<T, T::K1, T::K2, P>],
     heap: Global,
 ) -> Result<Vec<Call<Crossed<T>, T::K2, T::K1, Inside<P>>>, AllocError>

@@ -91,7 +91,7 @@ pub fn agree<
     E: HashTable + Drop,
     F: HashTable + Drop,
     J: WordHash + Drop,
-    P: Predicate<R = T>,
+    P: Predicate<R = T> + Copy,
 >(
     wanted: usize,
     trace: &[Call<T, T::K1, T::K2, P>],
