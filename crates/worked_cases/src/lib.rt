@@ -5,6 +5,7 @@ ghost use Rattle.hashing.specs.declared.Words.TheVariants.{One};
 ghost use Rattle.std.specs.Prelude.{Some};
 ghost use Rattle.worked_cases.specs.Cases.{WorkedCases};
 ghost use Rattle.worked_cases.specs.Pairs.{same_first, same_second, first_of, second_of, pair_text};
+ghost use Rattle.worked_cases.specs.ShrinkCase.{ShrinkCase};
 ghost use Rattle.std.proofs.Common.{rules};
 
 use hashing::Words;
@@ -107,6 +108,14 @@ impl fmt::Display for Pair {
 // that the contracts of a map cite.
 pub fn cases_stand() -> u8
     ensures { WorkedCases }
+{
+    0
+}
+
+// A shrink after a removal comes to what is written out for it. It is computed by the model's `shrinking`, the same one that
+// the contract of a map's shrink cites.
+pub fn shrink_case_stands() -> u8
+    ensures { ShrinkCase }
 {
     0
 }

@@ -1,9 +1,8 @@
-use Rattle.std.proofs.Common.{◌≡◌, map, length, vec_items, sym, refl, ap, ◌∙◌}
+use Rattle.std.proofs.Common.{map, vec_items, ap, ◌∙◌}
 use Rattle.std.proofs.lemmas.List.{take_all}
 use Rattle.std.proofs.lemmas.Result.{IfOk-from_err}
 use Rattle.traces.specs.Calls.{trace_of}
 use Rattle.traces.specs.Laws.{cross}
-use Rattle.agreement.specs.Inside.{keeps_inside}
 use Rattle.agreement.proofs.Crossings.{crossed_more}
 use Rattle.agreement.proofs.crossing.crossed_trace.Goals as goal
 

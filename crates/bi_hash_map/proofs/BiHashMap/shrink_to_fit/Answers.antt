@@ -1,4 +1,4 @@
-use Rattle.std.proofs.Common.{◌≡◌, ap}
+use Rattle.std.proofs.Common.{ap}
 use Rattle.indexed_items.specs.Items.{items_state}
 use Rattle.bi_hash_map.proofs.Shrinking.{shrunk_some, shrunk_none}
 use Rattle.bi_hash_map.proofs.BiHashMap.shrink_to_fit.Goals as goal
