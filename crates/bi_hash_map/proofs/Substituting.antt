@@ -1,17 +1,17 @@
 -- The step of a replace, by what the two keys found.
-use Rattle.std.proofs.Common.{◌≡◌, ℕ, ◌<◌, ◌≤◌, Bool, true, false, cond, ◌&&◌, ◌||◌, eqb, ◌⊎◌, [], ◌∷◌, length, Some, None, Option, sym, refl, ap, ◌∙◌, subst, inl, inr, arith}
-use Rattle.std.proofs.lemmas.Bool.{cases_eq, eq-eqb, ne_eqb, eqb-true, eqb-false, and_from, and_parts, or_left, or_right, both_ways}
+use Rattle.std.proofs.Common.{◌≡◌, ◌≤◌, Bool, true, false, cond, eqb, ◌⊎◌, [], ◌∷◌, Some, None, Option, sym, refl, ap, ◌∙◌, subst, inl, inr, arith}
+use Rattle.std.proofs.lemmas.Bool.{cases_eq, eq-eqb, ne_eqb, and_from, and_parts, or_left, or_right}
 use Rattle.base.specs.Counting.{one}
 use Rattle.base.proofs.Options.{some_same}
 use Rattle.item_set.specs.declared.slot.ItemSlot.TheVariants.{Occupied}
-use Rattle.item_set.specs.Slots.{at, held, tally}
+use Rattle.item_set.specs.Slots.{at, tally}
 use Rattle.item_set.specs.States.{State, exchanged}
 use Rattle.item_set.proofs.Tally.{tally_some, tally_mono}
 use Rattle.model.specs.Answers.{goes, refused, placed}
 use Rattle.model.specs.declared.Found.{Found}
 use Rattle.model.specs.Model.{either, both, find, exchanging, overwriting, substituting}
 use Rattle.model.proofs.Finding.{find_is, tally_either, tally_only}
-use Rattle.model.proofs.Sharing.{Tells, tells, both_here, both_none, both_other}
+use Rattle.model.proofs.Sharing.{Tells, tells, both_here}
 use Rattle.bi_hash_map.specs.declared.Match.{Match}
 use Rattle.bi_hash_map.specs.declared.Match.TheVariants.{Nothing, Both, Other}
 use Rattle.bi_hash_map.specs.Matches.{matched}

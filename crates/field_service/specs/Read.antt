@@ -1,6 +1,5 @@
 -- A list of records taken in, and what a record's two keys find.
-use Rattle.std.specs.Prelude.{List, [], ◌∷◌, Option}
-use Rattle.std.specs.Option.{option_map}
+use Rattle.std.specs.Prelude.{List, [], ◌∷◌}
 use Rattle.item.specs.Kinds.{Kind}
 use Rattle.item_set.specs.States.{State}
 use Rattle.model.specs.Model.{find, has1, has2, step, insert}

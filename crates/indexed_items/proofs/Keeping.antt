@@ -1,5 +1,5 @@
 -- Each step keeps the slots and the tables sound.
-use Rattle.std.proofs.Common.{◌≡◌, ℕ, ◌≤◌, min, [], sym, refl, ap, ◌∙◌, subst, arith}
+use Rattle.std.proofs.Common.{◌≡◌, ℕ, ◌≤◌, min, [], sym, refl, ap, subst, arith}
 use native.Mathlib.Nat.{min-le_left, min-le_right}
 use Rattle.base.specs.Counting.{times}
 use Rattle.hash_table.specs.declared.HashTable as table
@@ -7,7 +7,6 @@ use Rattle.hashing.specs.declared.WordHash as hasher
 use Rattle.item.specs.declared.BiHashItem as item
 use Rattle.item.specs.declared.Key as key
 use Rattle.item.specs.Kinds.{Kind, kind_of}
-use Rattle.item_set.specs.Chains.{Linked}
 use Rattle.item_set.specs.declared.set.ItemSet.{ItemSet}
 use Rattle.item_set.specs.declared.slot.ItemSlot.{ItemSlot}
 use Rattle.item_set.specs.Sets.{meaning, Ready}
@@ -16,7 +15,6 @@ use Rattle.map_tables.specs.declared.BiHashMapTables.{BiHashMapTables}
 use Rattle.map_tables.specs.Due.{key_hash, Indexed}
 use Rattle.memory.specs.declared.Memory as memory
 use Rattle.model.specs.Model.{WellFormed}
-use Rattle.indexed_items.specs.declared.IndexedItems.{IndexedItems}
 use Rattle.indexed_items.specs.Items.{Sound, least}
 
 module _ {T K1 K2 M A B H : Type 0} (i : item.Ghosts T K1 K2) (k1 : key.Ghosts K1) (k2 : key.Ghosts K2)

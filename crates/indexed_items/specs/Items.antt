@@ -4,7 +4,7 @@ use Rattle.hash_table.specs.declared.HashTable as table
 use Rattle.hashing.specs.declared.WordHash as hasher
 use Rattle.item.specs.declared.BiHashItem as item
 use Rattle.item.specs.declared.Key as key
-use Rattle.item.specs.Kinds.{Kind, kind_of}
+use Rattle.item.specs.Kinds.{kind_of}
 use Rattle.item_set.specs.declared.slot.ItemSlot.{ItemSlot}
 use Rattle.item_set.specs.Sets.{meaning, Ready}
 use Rattle.item_set.specs.Slots.{at, held}

@@ -1,9 +1,8 @@
 -- A commit, from what each of its parts left.
-use Rattle.std.proofs.Common.{◌≡◌, ℕ, ◌<◌, ◌≤◌, Bool, leb, List, [], ◌∷◌, ◌++◌, Some, None, Option, sym, refl, ap, ◌∙◌, subst}
+use Rattle.std.proofs.Common.{◌≡◌, ℕ, ◌<◌, ◌≤◌, Bool, leb, List, [], Some, None, Option, sym, refl, ap, ◌∙◌, subst}
 use Rattle.std.specs.Option.{option_map}
 use Rattle.std.proofs.lemmas.Bool.{le-leb, lt-leb}
-use Rattle.item_set.specs.declared.slot.ItemSlot.TheVariants.{Occupied}
-use Rattle.item_set.specs.Slots.{at, held, tally}
+use Rattle.item_set.specs.Slots.{held}
 use Rattle.item_set.specs.States.{State, standing, taken, takes}
 use Rattle.model.specs.Answers.{goes, refused, placed}
 use Rattle.model.specs.declared.Found.{Found}

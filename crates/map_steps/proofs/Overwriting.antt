@@ -1,5 +1,5 @@
 -- A commit is the model's overwrite.
-use Rattle.std.proofs.Common.{◌≡◌, ℕ, ◌<◌, ◌≤◌, Bool, true, false, cond, eqb, leb, ◌⊎◌, [], sym, refl, ap, ◌∙◌, inl, inr, arith}
+use Rattle.std.proofs.Common.{◌≡◌, Bool, cond, leb, ◌⊎◌, [], ap, ◌∙◌, inl, inr, arith}
 use Rattle.std.proofs.lemmas.Bool.{cases_eq, eq-eqb, ne_eqb, lt-leb}
 use Rattle.item_set.specs.Chains.{Linked}
 use Rattle.item_set.specs.Slots.{tally}

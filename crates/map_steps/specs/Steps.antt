@@ -1,5 +1,5 @@
 -- What an overwrite prepares and what its commit comes to.
-use Rattle.std.specs.Prelude.{ℕ, Bool, cond, List, [], ◌∷◌, Some, None, Option, nat_le}
+use Rattle.std.specs.Prelude.{Bool, cond, List, [], ◌∷◌, Some, None, Option, nat_le}
 use Rattle.std.specs.Option.{option_map}
 use Rattle.hashing.specs.declared.WordHash as hasher
 use Rattle.indexed_items.specs.Items.{hashes_of, prepared, Stands}

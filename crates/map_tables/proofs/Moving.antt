@@ -1,11 +1,11 @@
 -- The pairs that are due once the records have moved forward: each pair with its slot's new place.
-use Rattle.std.proofs.Common.{◌≡◌, ℕ, zero, suc, ◌+◌, ◌<◌, ◌≤◌, Bool, true, false, cond, eqb, List, [], ◌∷◌, ◌++◌, map, length, get_or, drop, sym, refl, ap, ◌∙◌, append_assoc, arith}
+use Rattle.std.proofs.Common.{◌≡◌, ℕ, suc, ◌+◌, ◌≤◌, List, [], ◌∷◌, ◌++◌, map, length, get_or, drop, sym, refl, ap, ◌∙◌, append_assoc, arith}
 use Rattle.std.proofs.lemmas.List.{get_or_at, length_push}
 use Rattle.std.proofs.lemmas.Bool.{eq-eqb, ne_eqb}
-use Rattle.base.specs.Counting.{sentinel, one, times, Same}
+use Rattle.base.specs.Counting.{sentinel, times}
 use Rattle.base.proofs.Counts.{times_map}
 use Rattle.hash_table.specs.declared.HashTable as table
-use Rattle.hash_table.specs.Pairs.{new_slot, homeless, moved, remapping}
+use Rattle.hash_table.specs.Pairs.{homeless, moved, remapping}
 use Rattle.item_set.specs.declared.slot.ItemSlot.{ItemSlot}
 use Rattle.item_set.specs.declared.slot.ItemSlot.TheVariants.{Occupied, Vacant}
 use Rattle.item_set.specs.Chains.{Linked}

@@ -1,5 +1,5 @@
 -- What a search through a table's candidates shows of the slots.
-use Rattle.std.proofs.Common.{◌≡◌, ℕ, zero, suc, ◌+◌, ◌<◌, ◌≤◌, Bool, true, false, cond, ◌&&◌, eqb, ◌⊎◌, List, [], ◌∷◌, length, Some, None, Option, sym, refl, ap, ◌∙◌, inl, inr, arith}
+use Rattle.std.proofs.Common.{◌≡◌, ℕ, zero, suc, ◌+◌, ◌<◌, ◌≤◌, Bool, true, false, eqb, ◌⊎◌, List, [], ◌∷◌, length, Some, None, Option, sym, refl, ap, ◌∙◌, inl, inr, arith}
 use Rattle.std.specs.List.{slice_get}
 use Rattle.std.proofs.lemmas.Bool.{cases_eq, cases_lt, eq-eqb, eqb-true, false≢true, and_from}
 use Rattle.base.specs.Counting.{one, times, Same}
@@ -11,7 +11,6 @@ use Rattle.item_set.specs.Slots.{at, held, weigh, tally}
 use Rattle.item_set.proofs.Holding.{occupied, occupied_within}
 use Rattle.map_tables.specs.Due.{due}
 use Rattle.map_tables.proofs.Indexing.{due_there}
-use Rattle.model.specs.declared.Found.{Found}
 use Rattle.model.specs.Model.{find, has}
 use Rattle.model.proofs.Finding.{find_is, find_none}
 

@@ -1,17 +1,15 @@
 -- States from which what a search found was freed.
-use Rattle.std.proofs.Common.{◌≡◌, ℕ, ◌+◌, ◌<◌, ◌≤◌, Bool, true, false, cond, ◌||◌, eqb, leb, ◌⊎◌, List, [], ◌∷◌, ◌++◌, length, set, Some, None, Option, sym, refl, ap, ◌∙◌, subst, inl, inr, arith}
+use Rattle.std.proofs.Common.{◌≡◌, ◌+◌, ◌<◌, ◌≤◌, Bool, cond, eqb, ◌⊎◌, [], ◌++◌, length, Some, None, Option, sym, refl, ap, ◌∙◌, inl, inr, arith}
 use Rattle.std.proofs.lemmas.List.{get_or-set_other, length-set}
 use Rattle.std.proofs.lemmas.Bool.{cases_eq, eq-eqb, ne_eqb, or_left, or_right}
 use Rattle.base.specs.Counting.{sentinel, one}
 use Rattle.item.specs.Kinds.{Kind}
-use Rattle.item_set.specs.declared.slot.ItemSlot.{ItemSlot}
 use Rattle.item_set.specs.declared.slot.ItemSlot.TheVariants.{Occupied, Vacant}
 use Rattle.item_set.specs.Slots.{at, weigh, tally, anyone}
-use Rattle.item_set.specs.States.{State, standing, taken, takes, freed}
+use Rattle.item_set.specs.States.{State, standing, freed}
 use Rattle.item_set.proofs.Tally.{tally_set, tally_mono}
-use Rattle.model.specs.Answers.{goes, refused, placed}
 use Rattle.model.specs.declared.Found.{Found}
-use Rattle.model.specs.Model.{either, both, find, freed_at, item_of, without, cleared, ousted, admitting, displacing, overwriting, WellFormed}
+use Rattle.model.specs.Model.{either, find, freed_at, item_of, without, cleared, ousted, WellFormed}
 use Rattle.model.specs.Told.{another}
 use Rattle.model.proofs.Finding.{find_is, find_none, tally_either}
 use Rattle.model.proofs.Keeping.{well_freed}

@@ -1,7 +1,6 @@
 -- What the answers of the code tell: number and values for every case.
 use Rattle.std.specs.Prelude.{ℕ, cond, List, [], ◌∷◌, Some, None, Ok, Err, Option, Result, ◌==◌, nat_lt}
 use Rattle.model.specs.Answers.{Answer, refused, placed}
-use Rattle.model.specs.declared.DuplicateItem.{DuplicateItem}
 use Rattle.model.specs.declared.Displaced.{Displaced}
 use Rattle.model.specs.declared.Displaced.TheVariants as displaced
 use Rattle.model.specs.declared.Duplicates.{Duplicates}

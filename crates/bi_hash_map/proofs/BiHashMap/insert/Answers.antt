@@ -1,4 +1,4 @@
-use Rattle.std.proofs.Common.{◌≡◌, sym, refl, ap, ◌∙◌}
+use Rattle.std.proofs.Common.{sym, ap, ◌∙◌}
 use Rattle.indexed_items.specs.Items.{items_state}
 use Rattle.item.specs.Kinds.{kind_of}
 use Rattle.item_set.proofs.Granting.{growing_some, growing_none}

@@ -1,4 +1,4 @@
-use Rattle.std.proofs.Common.{◌≡◌, sym, refl, ap, ◌∙◌}
+use Rattle.std.proofs.Common.{◌∙◌}
 use Rattle.item.specs.Kinds.{kind_of}
 use Rattle.model.specs.Model.{has1, has2}
 use Rattle.map_steps.proofs.Overwriting.{overwriting_commits}

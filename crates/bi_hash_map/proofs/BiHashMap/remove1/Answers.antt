@@ -1,7 +1,7 @@
-use Rattle.std.proofs.Common.{◌≡◌, sym, refl, ap, ◌∙◌}
+use Rattle.std.proofs.Common.{refl, ap, ◌∙◌}
 use Rattle.item.specs.Kinds.{kind_of}
 use Rattle.model.specs.Answers.{goes}
-use Rattle.model.specs.Model.{both, has1, has2, freed_at, seen}
+use Rattle.model.specs.Model.{has1, freed_at, seen}
 use Rattle.model.specs.Told.{looked}
 use Rattle.map_steps.proofs.Committing.{standing_found}
 use Rattle.bi_hash_map.specs.Maps.{map_state}

@@ -1,4 +1,4 @@
-use Rattle.std.proofs.Common.{◌≡◌, sym, refl, ap, ◌∙◌}
+use Rattle.std.proofs.Common.{refl, ap, ◌∙◌}
 use Rattle.item.specs.Kinds.{kind_of}
 use Rattle.model.specs.Answers.{goes}
 use Rattle.model.specs.Model.{both, has1, has2, freed_at, seen}

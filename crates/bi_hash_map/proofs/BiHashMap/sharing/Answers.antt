@@ -1,4 +1,4 @@
-use Rattle.std.proofs.Common.{◌≡◌, ap, ◌∙◌}
+use Rattle.std.proofs.Common.{ap, ◌∙◌}
 use Rattle.item.specs.Kinds.{kind_of}
 use Rattle.model.specs.Model.{has1, has2, find}
 use Rattle.model.proofs.Sharing.{shares_in_order}

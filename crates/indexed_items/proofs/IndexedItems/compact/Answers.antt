@@ -1,4 +1,4 @@
-use Rattle.std.proofs.Common.{◌≡◌, ℕ, List, Some, sym, ap, ◌∙◌}
+use Rattle.std.proofs.Common.{ℕ, List, Some, sym, ap, ◌∙◌}
 use Rattle.hash_table.specs.Pairs.{remapping}
 use Rattle.item.specs.Kinds.{kind_of}
 use Rattle.item_set.specs.Compacting.{compacts}

@@ -1,4 +1,4 @@
-use Rattle.std.proofs.Common.{◌≡◌, sym, refl, ap, ◌∙◌}
+use Rattle.std.proofs.Common.{ap}
 use Rattle.item.specs.Kinds.{kind_of}
 use Rattle.item_set.specs.Sets.{meaning}
 use Rattle.item_set.specs.Slots.{at}

@@ -1,4 +1,4 @@
-use Rattle.std.proofs.Common.{◌≡◌, ℕ, ◌<◌, leb, List, get_or, Some, Option, sym, refl, ap, ◌∙◌}
+use Rattle.std.proofs.Common.{get_or, ap}
 use Rattle.item.specs.Kinds.{kind_of}
 use Rattle.item_set.specs.Sets.{meaning}
 use Rattle.item_set.proofs.Granting.{growing_some}

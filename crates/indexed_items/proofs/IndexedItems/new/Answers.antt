@@ -1,7 +1,7 @@
-use Rattle.std.proofs.Common.{◌≡◌, ℕ, ◌≤◌, min, sym, refl, ap, ◌∙◌, subst}
+use Rattle.std.proofs.Common.{◌≡◌, ◌≤◌, min, sym, ap, ◌∙◌, subst}
 use Rattle.item.specs.Kinds.{kind_of}
 use Rattle.item_set.specs.Sets.{meaning}
-use Rattle.item_set.specs.States.{State, fresh}
+use Rattle.item_set.specs.States.{fresh}
 use Rattle.map_tables.specs.Due.{key_hash}
 use Rattle.indexed_items.specs.Items.{least}
 use Rattle.indexed_items.proofs.Keeping.{sound_by, well_fresh, indexed_fresh, least_most, least_first, least_second}

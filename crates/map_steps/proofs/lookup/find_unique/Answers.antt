@@ -1,4 +1,4 @@
-use Rattle.std.proofs.Common.{◌≡◌, Some, None, sym, refl, ap, ◌∙◌}
+use Rattle.std.proofs.Common.{Some, None, sym, ap, ◌∙◌}
 use Rattle.item.specs.Kinds.{kind_of}
 use Rattle.model.specs.Model.{has1, has2}
 use Rattle.model.proofs.Sharing.{tells, both_none, both_here, both_other}

@@ -1,4 +1,4 @@
-use Rattle.std.proofs.Common.{◌≡◌, sym, refl, ap, ◌∙◌, subst}
+use Rattle.std.proofs.Common.{sym, ap, ◌∙◌}
 use Rattle.item.specs.Kinds.{kind_of}
 use Rattle.item_set.specs.Slots.{tally}
 use Rattle.item_set.proofs.Granting.{growing_some, growing_none}

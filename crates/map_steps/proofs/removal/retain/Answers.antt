@@ -1,4 +1,4 @@
-use Rattle.std.proofs.Common.{◌≡◌, length, sym, refl, ap, ◌∙◌, add-one, arith}
+use Rattle.std.proofs.Common.{◌≡◌, length, sym, ap, ◌∙◌, add-one, arith}
 use Rattle.indexed_items.specs.Items.{items_state}
 use Rattle.item_set.specs.Slots.{at}
 use Rattle.model.specs.Answers.{goes, counted}

@@ -1,4 +1,4 @@
-use Rattle.std.proofs.Common.{◌≡◌, ℕ, sym, refl, ap, ◌∙◌, arith}
+use Rattle.std.proofs.Common.{sym, ap, ◌∙◌, arith}
 use Rattle.model.specs.Model.{has}
 use Rattle.map_tables.proofs.Searching.{passed_more, empty_fails, other_fails, found_nowhere, found_no_more, found_here}
 use Rattle.item_set.specs.Slots.{at}
