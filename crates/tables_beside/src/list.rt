@@ -1,80 +1,96 @@
 // A table as plainly as can be: a list of pairs.
+ghost use Rattle.std.specs.Prelude.{◌≡◌, ◌<◌, [], length, position, MatchResult, OnErr};
+ghost use Rattle.base.specs.Counting.{times};
+ghost use Rattle.hash_table.specs.Pairs.{is_pair, remapping};
+ghost use Rattle.tables_beside.specs.Listing.{listing, taking, remap_code};
+
 use base::SENTINEL;
 use std::alloc::{AllocError, Global};
 
-#[derive(Clone, Copy)]
-struct Pair {
-    hash: u64,
-    slot: u32,
-}
-
+// A pair is a hash and a slot.
 #[derive(Drop)]
 pub struct List {
-    pairs: Vec<Pair>,
+    pairs: Vec<(u64, u32)>,
     heap: Global,
 }
 
 impl List {
-    pub fn new(heap: Global) -> List {
+    pub fn new(heap: Global) -> List
+        ensures { result.pairs.items ≡ [] }
+    {
         List {
             pairs: Vec::new(heap),
             heap,
         }
     }
 
-    pub fn len(&self) -> usize {
+    pub fn len(&self) -> usize
+        ensures { result ≡ length self.now.pairs.items }
+    {
         self.pairs.len()
     }
 
-    pub fn clear(&mut self) {
+    pub fn clear(&mut self)
+        ensures { self.new.pairs.items ≡ [] }
+    {
         self.pairs.clear();
     }
 
     // How often a pair stands.
-    pub fn count(&self, hash: u64, slot: u32) -> usize {
-        let mut count = 0usize;
-        for pair in self.pairs.as_slice() {
-            if pair.hash == hash && pair.slot == slot {
-                count = count.saturating_add(1);
-            }
-        }
-        count
+    pub fn count(&self, hash: u64, slot: u32) -> usize
+        ensures { result ≡ times (is_pair hash slot) self.now.pairs.items }
+    {
+        self.pairs
+            .as_slice()
+            .iter()
+            .filter(|pair| pair.0 == hash && pair.1 == slot)
+            .count()
     }
 
-    // False where as many pairs stand as the capacity.
-    pub fn add(&mut self, hash: u64, slot: u32, capacity: usize) -> Result<bool, AllocError> {
+    // False where as many pairs stand as the capacity. Memory runs out only where fewer stand, and then nothing is done.
+    pub fn add(&mut self, hash: u64, slot: u32, capacity: usize) -> Result<bool, AllocError>
+        ensures step { MatchResult result (λ took. (took, self.new.pairs.items) ≡ listing capacity self.old.pairs.items (hash, slot)) (λ _. self.new.pairs.items ≡ self.old.pairs.items) }
+        ensures wanted { OnErr result (length self.old.pairs.items < capacity) }
+    {
         if self.pairs.len() >= capacity {
             return Ok(false);
         }
-        self.pairs.push(Pair { hash, slot })?;
+        self.pairs.push((hash, slot))?;
         Ok(true)
     }
 
-    // False where no such pair stands.
-    pub fn remove(&mut self, hash: u64, slot: u32) -> bool {
-        for place in 0..self.pairs.len() {
-            let Some(pair) = self.pairs.get(place) else {
-                return false;
-            };
-            if pair.hash == hash && pair.slot == slot {
-                let _ = self.pairs.swap_remove(place);
-                return true;
-            }
-        }
-        false
+    // Where a pair stands first.
+    fn place_of(&self, hash: u64, slot: u32) -> Option<usize>
+        ensures { result ≡ position (is_pair hash slot) self.now.pairs.items }
+    {
+        self.pairs
+            .as_slice()
+            .iter()
+            .position(|pair| pair.0 == hash && pair.1 == slot)
     }
 
-    // False, with nothing done, where a slot has no new place.
-    pub fn remap(&mut self, places: &[u32]) -> Result<bool, AllocError> {
+    // False where no such pair stands.
+    pub fn remove(&mut self, hash: u64, slot: u32) -> bool
+        ensures { (result, self.new.pairs.items) ≡ taking self.old.pairs.items hash slot }
+    {
+        let Some(place) = self.place_of(hash, slot) else {
+            return false;
+        };
+        let _ = self.pairs.swap_remove(place);
+        true
+    }
+
+    // False, with nothing done, where a slot has no new place, and nothing is done where memory runs out.
+    pub fn remap(&mut self, places: &[u32]) -> Result<bool, AllocError>
+        ensures { MatchResult result (λ took. (remap_code took, self.new.pairs.items) ≡ remapping places.now self.old.pairs.items) (λ _. self.new.pairs.items ≡ self.old.pairs.items) }
+    {
         let mut moved = Vec::new(self.heap);
         for pair in self.pairs.as_slice() {
-            match places.get(pair.slot as usize) {
-                Some(place) if *place != SENTINEL => moved.push(Pair {
-                    hash: pair.hash,
-                    slot: *place,
-                })?,
-                _ => return Ok(false),
+            let slot = places.get(pair.1 as usize).copied().unwrap_or(SENTINEL);
+            if slot == SENTINEL {
+                return Ok(false);
             }
+            moved.push((pair.0, slot))?;
         }
         self.pairs = moved;
         Ok(true)
