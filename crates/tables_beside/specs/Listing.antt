@@ -16,6 +16,6 @@ taking_at ps p (Some i) = (true, swap_remove ps i p)
 abbrev pub taking : List (ℕ × ℕ) → ℕ → ℕ → Bool × List (ℕ × ℕ)
 taking ps h s = taking_at ps (h, s) (position (is_pair h s) ps)
 
--- the code by which `remapping` says whether it was done
-abbrev pub remap_code : Bool → ℕ
-remap_code done = cond done 0 11
+-- the code that a table answers with where the list answers with a bool
+abbrev pub table_code : ℕ → Bool → ℕ
+table_code refusal took = cond took 0 refusal

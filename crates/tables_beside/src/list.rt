@@ -1,8 +1,7 @@
 // A table as plainly as can be: a list of pairs.
-ghost use Rattle.std.specs.Prelude.{◌≡◌, ◌<◌, [], length, position, MatchResult, OnErr};
-ghost use Rattle.base.specs.Counting.{times};
-ghost use Rattle.hash_table.specs.Pairs.{is_pair, remapping};
-ghost use Rattle.tables_beside.specs.Listing.{listing, taking, remap_code};
+ghost use Rattle.std.specs.Prelude.{◌≡◌, ◌<◌, ◌≤◌, [], length, count_by, position, MatchResult, IfOk, OnErr};
+ghost use Rattle.hash_table.specs.Pairs.{is_pair, adding, removing, remapping};
+ghost use Rattle.tables_beside.specs.Listing.{listing, taking, table_code};
 
 use base::SENTINEL;
 use std::alloc::{AllocError, Global};
@@ -38,7 +37,7 @@ impl List {
 
     // How often a pair stands.
     pub fn count(&self, hash: u64, slot: u32) -> usize
-        ensures { result ≡ times (is_pair hash slot) self.now.pairs.items }
+        ensures { result ≡ count_by (is_pair hash slot) self.now.pairs.items }
     {
         self.pairs
             .as_slice()
@@ -50,6 +49,7 @@ impl List {
     // False where as many pairs stand as the capacity. Memory runs out only where fewer stand, and then nothing is done.
     pub fn add(&mut self, hash: u64, slot: u32, capacity: usize) -> Result<bool, AllocError>
         ensures step { MatchResult result (λ took. (took, self.new.pairs.items) ≡ listing capacity self.old.pairs.items (hash, slot)) (λ _. self.new.pairs.items ≡ self.old.pairs.items) }
+        ensures as_tables { length self.old.pairs.items ≤ capacity → IfOk result (λ took. table_code 8 took ≡ adding capacity self.old.pairs.items) }
         ensures wanted { OnErr result (length self.old.pairs.items < capacity) }
     {
         if self.pairs.len() >= capacity {
@@ -71,7 +71,8 @@ impl List {
 
     // False where no such pair stands.
     pub fn remove(&mut self, hash: u64, slot: u32) -> bool
-        ensures { (result, self.new.pairs.items) ≡ taking self.old.pairs.items hash slot }
+        ensures as_tables { table_code 10 result ≡ removing self.old.pairs.items hash slot }
+        ensures step { (result, self.new.pairs.items) ≡ taking self.old.pairs.items hash slot }
     {
         let Some(place) = self.place_of(hash, slot) else {
             return false;
@@ -82,7 +83,8 @@ impl List {
 
     // False, with nothing done, where a slot has no new place, and nothing is done where memory runs out.
     pub fn remap(&mut self, places: &[u32]) -> Result<bool, AllocError>
-        ensures { MatchResult result (λ took. (remap_code took, self.new.pairs.items) ≡ remapping places.now self.old.pairs.items) (λ _. self.new.pairs.items ≡ self.old.pairs.items) }
+        ensures wanted { OnErr result (0 < length self.old.pairs.items) }
+        ensures step { MatchResult result (λ took. (table_code 11 took, self.new.pairs.items) ≡ remapping places.now self.old.pairs.items) (λ _. self.new.pairs.items ≡ self.old.pairs.items) }
     {
         let mut moved = Vec::new(self.heap);
         for pair in self.pairs.as_slice() {
