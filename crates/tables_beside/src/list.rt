@@ -1,4 +1,4 @@
-// A table as plainly as can be: a list of pairs.
+// A table as plainly as can be: a list of pairs. Its answers are those that the contract of a table states, said by a bool.
 ghost use Rattle.std.specs.Prelude.{◌≡◌, ◌<◌, ◌≤◌, [], length, count_by, position, MatchResult, IfOk, OnErr};
 ghost use Rattle.hash_table.specs.Pairs.{is_pair, adding, removing, remapping};
 ghost use Rattle.tables_beside.specs.Listing.{listing, taking, table_code};
@@ -81,7 +81,8 @@ impl List {
         true
     }
 
-    // False, with nothing done, where a slot has no new place, and nothing is done where memory runs out.
+    // False, with nothing done, where a slot has no new place. Memory runs out only where there is a pair to move, and then
+    // nothing is done.
     pub fn remap(&mut self, places: &[u32]) -> Result<bool, AllocError>
         ensures wanted { OnErr result (0 < length self.old.pairs.items) }
         ensures step { MatchResult result (λ took. (table_code 11 took, self.new.pairs.items) ≡ remapping places.now self.old.pairs.items) (λ _. self.new.pairs.items ≡ self.old.pairs.items) }
