@@ -2,27 +2,10 @@
 use crate::telling::Told;
 use worked_cases::Pair;
 
-fn same_pair(a: &Pair, b: &Pair) -> bool {
-    a.first == b.first && a.second == b.second
-}
-
-// Whether two lists have the same pairs in the same order.
-fn same_list(xs: &[Pair], ys: &[Pair]) -> bool {
-    if xs.len() != ys.len() {
-        return false;
-    }
-    for (x, y) in xs.iter().zip(ys.iter()) {
-        if !same_pair(x, y) {
-            return false;
-        }
-    }
-    true
-}
-
 fn times(pair: &Pair, xs: &[Pair]) -> usize {
     let mut n = 0usize;
     for x in xs {
-        if same_pair(pair, x) {
+        if pair == x {
             n = n.saturating_add(1);
         }
     }
@@ -47,12 +30,9 @@ pub fn alike(first: &Told, second: &Told) -> bool {
     first.answer.refusal == second.answer.refusal
         && first.answer.slot == second.answer.slot
         && first.answer.count == second.answer.count
-        && same_list(
-            first.answer.records.as_slice(),
-            second.answer.records.as_slice(),
-        )
+        && first.answer.records == second.answer.records
         && first.scratch == second.scratch
-        && same_list(first.standing.as_slice(), second.standing.as_slice())
+        && first.standing == second.standing
 }
 
 // Alike but for slots, what a scratch holds, and the order of records: where keys are exchanged, these may differ.

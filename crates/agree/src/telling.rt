@@ -1,4 +1,10 @@
 // What a call left behind, as numbers and records, and its answer as a line shows it.
+ghost use Rattle.agree.specs.Tellings.{model_answer, told_entry, insides, uncrossed};
+ghost use Rattle.model.specs.Answers.{refused};
+ghost use Rattle.model.specs.Told.{looked, overwritten, refusal};
+ghost use Rattle.std.specs.Prelude.{◌≡◌, [], Ok, IfOk, vec_items};
+ghost use Rattle.traces.specs.Logs.{entry_of, outcome_of};
+
 use crate::calls::PairCall;
 use item::crossed::Crossed;
 use model::{Displaced, Duplicates, Found, MapRefusal, Overwritten, ScratchShort};
@@ -24,7 +30,9 @@ pub struct Told {
 }
 
 // An answer with a refusal's number and no records.
-fn bare<T>(refusal: u8, heap: Global) -> Answer<T> {
+fn bare<T>(refusal: u8, heap: Global) -> Answer<T>
+    ensures { model_answer result ≡ refused refusal [] }
+{
     Answer {
         refusal,
         slot: 0,
@@ -34,8 +42,10 @@ fn bare<T>(refusal: u8, heap: Global) -> Answer<T> {
 }
 
 // The new record comes first, and then those that it shares a key with.
-fn refused<T: Copy>(refusal: &MapRefusal<T>, heap: Global) -> Result<Answer<T>, AllocError> {
-    match refusal {
+fn refused<T: Copy>(refused: &MapRefusal<T>, heap: Global) -> Result<Answer<T>, AllocError>
+    ensures { IfOk result (λ answer. model_answer answer ≡ refusal refused.now) }
+{
+    match refused {
         MapRefusal::Duplicate(duplicate) => {
             let mut records = Vec::new(heap);
             records.push(duplicate.new)?;
@@ -58,12 +68,11 @@ fn refused<T: Copy>(refusal: &MapRefusal<T>, heap: Global) -> Result<Answer<T>, 
     }
 }
 
-fn overwritten<T: Copy>(
-    overwritten: &Overwritten<T>,
-    heap: Global,
-) -> Result<Answer<T>, AllocError> {
+fn overwritten<T: Copy>(placed: &Overwritten<T>, heap: Global) -> Result<Answer<T>, AllocError>
+    ensures { IfOk result (λ answer. model_answer answer ≡ overwritten (Ok placed.now)) }
+{
     let mut records = Vec::new(heap);
-    match overwritten.displaced {
+    match placed.displaced {
         Displaced::Nothing => {}
         Displaced::One(a) => records.push(a)?,
         Displaced::Two(a, b) => {
@@ -73,13 +82,15 @@ fn overwritten<T: Copy>(
     }
     Ok(Answer {
         refusal: 0,
-        slot: overwritten.slot,
+        slot: placed.slot,
         count: 0,
         records,
     })
 }
 
-fn found<T: Copy>(found: &Found<T>, heap: Global) -> Result<Answer<T>, AllocError> {
+fn found<T: Copy>(found: &Found<T>, heap: Global) -> Result<Answer<T>, AllocError>
+    ensures { IfOk result (λ answer. model_answer answer ≡ looked (Ok found.now)) }
+{
     let mut records = Vec::new(heap);
     records.push(found.item)?;
     Ok(Answer {
@@ -91,7 +102,9 @@ fn found<T: Copy>(found: &Found<T>, heap: Global) -> Result<Answer<T>, AllocErro
 }
 
 // What an outcome answers.
-fn answer_of<T: Copy>(outcome: &Outcome<T>, heap: Global) -> Result<Answer<T>, AllocError> {
+fn answer_of<T: Copy>(outcome: &Outcome<T>, heap: Global) -> Result<Answer<T>, AllocError>
+    ensures { IfOk result (λ answer. model_answer answer ≡ outcome_of outcome.now) }
+{
     match outcome {
         Outcome::Inserted(Ok(slot)) => Ok(Answer {
             refusal: 0,
@@ -121,7 +134,9 @@ fn answer_of<T: Copy>(outcome: &Outcome<T>, heap: Global) -> Result<Answer<T>, A
 }
 
 // What an event tells.
-pub fn tell(event: &Event<Pair>, heap: Global) -> Result<Told, AllocError> {
+pub fn tell(event: &Event<Pair>, heap: Global) -> Result<Told, AllocError>
+    ensures { IfOk result (λ told. told_entry told ≡ entry_of event.now) }
+{
     let answer = answer_of(&event.outcome, heap)?;
     let scratch = Vec::from_slice(heap, event.scratch.as_slice())?;
     let standing = Vec::from_slice(heap, event.standing.as_slice())?;
@@ -132,7 +147,10 @@ pub fn tell(event: &Event<Pair>, heap: Global) -> Result<Told, AllocError> {
     })
 }
 
-fn inner(records: &[Crossed<Pair>], heap: Global) -> Result<Vec<Pair>, AllocError> {
+// The records inside crossed ones, in their order.
+fn inner(records: &[Crossed<Pair>], heap: Global) -> Result<Vec<Pair>, AllocError>
+    ensures { IfOk result (λ pairs. vec_items pairs ≡ insides records.now) }
+{
     let mut pairs = Vec::new(heap);
     for record in records {
         pairs.push(record.inner)?;
@@ -141,7 +159,9 @@ fn inner(records: &[Crossed<Pair>], heap: Global) -> Result<Vec<Pair>, AllocErro
 }
 
 // The same of a run with exchanged keys, with the records as they are in the others.
-pub fn tell_crossed(event: &Event<Crossed<Pair>>, heap: Global) -> Result<Told, AllocError> {
+pub fn tell_crossed(event: &Event<Crossed<Pair>>, heap: Global) -> Result<Told, AllocError>
+    ensures { IfOk result (λ told. told_entry told ≡ uncrossed (entry_of event.now)) }
+{
     let crossed = answer_of(&event.outcome, heap)?;
     let records = inner(crossed.records.as_slice(), heap)?;
     let answer = Answer {

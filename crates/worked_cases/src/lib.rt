@@ -69,7 +69,7 @@ impl Key for Second {
 }
 
 // A record that is its two keys and nothing else.
-#[derive(Clone, Copy)]
+#[derive(Clone, Copy, PartialEq, Eq)]
 pub struct Pair {
     pub first: u8,
     pub second: u8,
