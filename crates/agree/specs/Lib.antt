@@ -1,1 +1,2 @@
+pub mod Likeness
 pub mod Tellings

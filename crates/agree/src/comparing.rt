@@ -1,42 +1,37 @@
 // Whether what two runs left behind is alike.
+ghost use Rattle.agree.specs.Likeness.{same_pair, same_pairs, crossed_entry};
+ghost use Rattle.agree.specs.Tellings.{told_entry};
+ghost use Rattle.base.specs.Counting.{times};
+ghost use Rattle.std.specs.Prelude.{◌≡◌, ◌↔◌, IsTrue};
+ghost use Rattle.traces.specs.Laws.{Alike};
+
 use crate::telling::Told;
 use worked_cases::Pair;
 
-fn times(pair: &Pair, xs: &[Pair]) -> usize {
-    let mut n = 0usize;
-    for x in xs {
-        if pair == x {
-            n = n.saturating_add(1);
-        }
-    }
-    n
+fn times(pair: &Pair, xs: &[Pair]) -> usize
+    ensures { result ≡ times (same_pair pair.now) xs.now }
+{
+    xs.iter().filter(|x| **x == *pair).count()
 }
 
 // Whether two lists have the same pairs, each as often, in any order.
-fn same_pairs(xs: &[Pair], ys: &[Pair]) -> bool {
-    if xs.len() != ys.len() {
-        return false;
-    }
-    for x in xs {
-        if times(x, xs) != times(x, ys) {
-            return false;
-        }
-    }
-    true
+fn same_pairs(xs: &[Pair], ys: &[Pair]) -> bool
+    ensures { result ≡ same_pairs xs.now ys.now }
+{
+    xs.len() == ys.len() && xs.iter().all(|x| times(x, xs) == times(x, ys))
 }
 
 // Alike in everything: the answer with its slot and the order of its records, the scratch, and the standing records.
-pub fn alike(first: &Told, second: &Told) -> bool {
-    first.answer.refusal == second.answer.refusal
-        && first.answer.slot == second.answer.slot
-        && first.answer.count == second.answer.count
-        && first.answer.records == second.answer.records
-        && first.scratch == second.scratch
-        && first.standing == second.standing
+pub fn alike(first: &Told, second: &Told) -> bool
+    ensures { IsTrue result ↔ (told_entry first.now ≡ told_entry second.now) }
+{
+    first == second
 }
 
 // Alike but for slots, what a scratch holds, and the order of records: where keys are exchanged, these may differ.
-pub fn alike_crossed(first: &Told, crossed: &Told) -> bool {
+pub fn alike_crossed(first: &Told, crossed: &Told) -> bool
+    ensures { IsTrue result ↔ Alike (told_entry first.now) (crossed_entry (told_entry crossed.now)) }
+{
     first.answer.refusal == crossed.answer.refusal
         && first.answer.count == crossed.answer.count
         && same_pairs(

@@ -13,7 +13,7 @@ use traces::{Call, Event, Outcome};
 use worked_cases::Pair;
 
 // 0 or the refusal's number; a slot; a count; and records, in their order.
-#[derive(Drop)]
+#[derive(Drop, PartialEq, Eq)]
 pub struct Answer<T> {
     pub refusal: u8,
     pub slot: u32,
@@ -22,7 +22,7 @@ pub struct Answer<T> {
 }
 
 // An answer, the scratch as it is then, and the standing records.
-#[derive(Drop)]
+#[derive(Drop, PartialEq, Eq)]
 pub struct Told {
     pub answer: Answer<Pair>,
     pub scratch: Vec<u32>,
