@@ -1,10 +1,11 @@
 -- Two lists have the same elements, each as often, if they are as long and each element of the one is there as often.
-use Rattle.std.proofs.Common.{◌≡◌, ◌+◌, ◌<◌, Bool, true, false, cond, ◌&&◌, eqb, Decides, List, [], ◌∷◌, length, count_by, refl, ap, sym, ◌∙◌, ⊎_elim, arith}
+use Rattle.std.proofs.Common.{◌≡◌, ◌+◌, ◌<◌, Bool, true, false, cond, not, ◌&&◌, eqb, Decides, List, [], ◌∷◌, length, count_by, refl, ap, sym, ◌∙◌, ⊎_elim, arith}
 use Rattle.std.proofs.lemmas.Bool.{cases_Bool, and_parts, and_from, eq-eqb, eqb-true}
 use Rattle.std.proofs.lemmas.List.Recursion.{is_count_by}
 use Rattle.std.specs.List.{list_all}
 use Rattle.base.proofs.Counts.{times_all}
 use Rattle.base.specs.Counting.{one, times, Same}
+use Rattle.traces.specs.Laws.{failing}
 
 -- the two ways to count
 pub times_count : {X : Type 0} (q : X → Bool) (xs : List X) → times q xs ≡ count_by q xs
@@ -89,3 +90,10 @@ module _ {X : Type 0} (same : X → X → Bool) (decides : (a b : X) → Decides
         (eq-eqb _ _ (sym (times_all xs) ∙ (s (λ z. true) ∙ times_all ys)))
         (all_pass (counts_match xs ys) (λ x. eq-eqb _ _ (s (same x))) xs),
   )
+
+-- how many fail a test, by the law that lists them
+pub count_failing : {X : Type 0} (p : X → Bool) (xs : List X) → length (failing p xs) ≡ count_by (λ x. not (p x)) xs
+count_failing p xs =
+    is_count_by (λ ys. length (failing p ys)) (λ x. not (p x)) refl
+    (λ x ys. elim (p x) as (λ b. length (cond b (failing p ys) (x ∷ failing p ys)) ≡ cond (not b) (1 + length (failing p ys)) (length (failing p ys))) [ true ↦ refl | false ↦ omega arith ])
+    xs

@@ -1,2 +1,4 @@
 pub mod Likeness
 pub mod Tellings
+pub mod Texts
+pub mod Totals

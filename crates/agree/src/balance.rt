@@ -1,6 +1,12 @@
 // What became of the records that were taken in.
+ghost use Rattle.agree.specs.Tellings.{model_answer, told_entry};
+ghost use Rattle.agree.specs.Texts.{totals_line, verdict};
+ghost use Rattle.agree.specs.Totals.{at_least, no_totals, totals_of, noted, count_taken, count_handed, count_rejected};
+ghost use Rattle.std.specs.Prelude.{◌≡◌, IfOk, length, string_bytes};
+ghost use Rattle.traces.specs.Laws.{failing};
+
 use crate::calls::{AtLeast, PairCall};
-use crate::telling::Told;
+use crate::telling::{Answer, Told};
 use item::predicate::Predicate;
 use std::alloc::{AllocError, Global};
 use traces::Call;
@@ -16,19 +22,54 @@ pub struct Balance {
 }
 
 // How many records a predicate rejects.
-fn rejects(predicate: &AtLeast, records: &[Pair]) -> usize {
-    let mut n = 0usize;
-    for record in records {
-        if !predicate.keeps(record) {
-            n = n.saturating_add(1);
-        }
+fn rejects(predicate: &AtLeast, records: &[Pair]) -> usize
+    ensures { result ≡ length (failing (at_least predicate.now) records.now) }
+{
+    records
+        .iter()
+        .filter(|record| !predicate.keeps(record))
+        .count()
+}
+
+// How many records a call took in.
+fn taken(call: &PairCall, answer: &Answer<Pair>) -> usize
+    ensures { result ≡ count_taken call.now (model_answer answer.now) }
+{
+    match call {
+        Call::Insert(_) | Call::Overwrite(_) | Call::Replace(_) => usize::from(answer.refusal == 0),
+        _ => 0,
     }
-    n
+}
+
+// How many records a call handed back.
+fn handed(call: &PairCall, answer: &Answer<Pair>) -> usize
+    ensures { result ≡ count_handed call.now (model_answer answer.now) }
+{
+    match call {
+        Call::Overwrite(_)
+        | Call::Replace(_)
+        | Call::Remove1(_)
+        | Call::Remove2(_)
+        | Call::RemoveUnique(_, _) => answer.records.len(),
+        _ => 0,
+    }
+}
+
+// How many of the records that stood before a call it rejected.
+fn rejected(call: &PairCall, before: &[Pair]) -> usize
+    ensures { result ≡ count_rejected call.now before.now }
+{
+    match call {
+        Call::Retain(predicate) => rejects(predicate, before),
+        _ => 0,
+    }
 }
 
 impl Balance {
     // Of a map with no records.
-    pub fn new(heap: Global) -> Balance {
+    pub fn new(heap: Global) -> Balance
+        ensures { totals_of result ≡ no_totals }
+    {
         Balance {
             taken: 0,
             handed: 0,
@@ -38,41 +79,38 @@ impl Balance {
     }
 
     // Counts in what a call did.
-    pub fn note(&mut self, call: &PairCall, told: Told) {
-        let Told {
-            answer,
-            scratch: _,
-            standing,
-        } = told;
-        let accepted = usize::from(answer.refusal == 0);
-        match call {
-            Call::Insert(_) => self.taken = self.taken.saturating_add(accepted),
-            Call::Overwrite(_) | Call::Replace(_) => {
-                self.taken = self.taken.saturating_add(accepted);
-                self.handed = self.handed.saturating_add(answer.records.len());
-            }
-            Call::Remove1(_) | Call::Remove2(_) | Call::RemoveUnique(_, _) => self.handed = self
-                .handed
-                .saturating_add(answer.records.len()),
-            Call::Retain(predicate) => self.rejected = self
-                .rejected
-                .saturating_add(rejects(predicate, self.standing.as_slice())),
-            _ => {}
+    pub fn note(&mut self, call: &PairCall, told: Told)
+        ensures { totals_of self.new ≡ noted (totals_of self.old) call.now (told_entry told) }
+    {
+        self.taken = self.taken.saturating_add(taken(call, &told.answer));
+        self.handed = self.handed.saturating_add(handed(call, &told.answer));
+        self.rejected = self
+            .rejected
+            .saturating_add(rejected(call, self.standing.as_slice()));
+        self.standing = told.standing;
+    }
+
+    // Whether the sum comes out.
+    fn verdict(&self) -> &'static str
+        ensures { result.now ≡ verdict (totals_of self.now) }
+    {
+        let gone = self.handed.saturating_add(self.rejected);
+        if self.taken == gone.saturating_add(self.standing.len()) {
+            "nothing lost"
+        } else {
+            "NOT BALANCED"
         }
-        self.standing = standing;
     }
 
     // The sum, and whether it comes out.
-    pub fn text(&self, heap: Global) -> Result<String, AllocError> {
+    pub fn text(&self, heap: Global) -> Result<String, AllocError>
+        ensures { IfOk result (λ text. string_bytes text ≡ totals_line (totals_of self.now)) }
+    {
         let taken = self.taken;
         let handed = self.handed;
         let rejected = self.rejected;
         let standing = self.standing.len();
-        let verdict = if taken == handed.saturating_add(rejected).saturating_add(standing) {
-            "nothing lost"
-        } else {
-            "NOT BALANCED"
-        };
+        let verdict = self.verdict();
         format!(in heap;
             "taken in {taken}, handed back {handed}, rejected {rejected}, standing {standing}: {verdict}"
         )

@@ -1,5 +1,7 @@
 // The calls that a trace of pairs has, and how they are written.
-ghost use Rattle.std.specs.Prelude.{nat_le};
+ghost use Rattle.agree.specs.Texts.{call_line, pair_line, number_line};
+ghost use Rattle.agree.specs.Totals.{at_least};
+ghost use Rattle.std.specs.Prelude.{◌≡◌, IfOk, string_bytes};
 
 use item::predicate::Predicate;
 use std::alloc::{AllocError, Global};
@@ -15,7 +17,7 @@ pub struct AtLeast {
 impl Predicate for AtLeast {
     type R = Pair;
 
-    ghost keeps = { λ predicate pair. nat_le predicate.bound pair.first };
+    ghost keeps = { at_least };
 
     fn keeps(&self, pair: &Pair) -> bool {
         self.bound <= pair.first
@@ -25,7 +27,9 @@ impl Predicate for AtLeast {
 pub type PairCall = Call<Pair, First, Second, AtLeast>;
 
 // A call as a trace has it.
-pub fn call_text(call: &PairCall, heap: Global) -> Result<String, AllocError> {
+pub fn call_text(call: &PairCall, heap: Global) -> Result<String, AllocError>
+    ensures { IfOk result (λ text. string_bytes text ≡ call_line call.now) }
+{
     match call {
         Call::Insert(pair) => with_pair("insert", pair, heap),
         Call::Overwrite(pair) => with_pair("overwrite", pair, heap),
@@ -56,11 +60,15 @@ pub fn call_text(call: &PairCall, heap: Global) -> Result<String, AllocError> {
     }
 }
 
-fn with_number(name: &str, number: usize, heap: Global) -> Result<String, AllocError> {
+fn with_number(name: &str, number: usize, heap: Global) -> Result<String, AllocError>
+    ensures { IfOk result (λ text. string_bytes text ≡ number_line name.now number) }
+{
     format!(in heap; "{name} {number}")
 }
 
-fn with_pair(name: &str, pair: &Pair, heap: Global) -> Result<String, AllocError> {
+fn with_pair(name: &str, pair: &Pair, heap: Global) -> Result<String, AllocError>
+    ensures { IfOk result (λ text. string_bytes text ≡ pair_line name.now pair.now) }
+{
     let first = pair.first;
     let second = pair.second;
     format!(in heap; "{name} {first} {second}")
