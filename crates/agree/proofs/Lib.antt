@@ -1,3 +1,4 @@
 mod Counted
 mod Equality
 mod Likely
+mod Written

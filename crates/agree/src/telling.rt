@@ -1,8 +1,9 @@
 // What a call left behind, as numbers and records, and its answer as a line shows it.
 ghost use Rattle.agree.specs.Tellings.{model_answer, told_entry, insides, uncrossed};
+ghost use Rattle.agree.specs.Texts.{accepted_line, answer_line, numbers_text, records_text, refusal_text};
 ghost use Rattle.model.specs.Answers.{refused};
 ghost use Rattle.model.specs.Told.{looked, overwritten, refusal};
-ghost use Rattle.std.specs.Prelude.{◌≡◌, [], Ok, IfOk, vec_items};
+ghost use Rattle.std.specs.Prelude.{◌≡◌, [], ◌++◌, Ok, IfOk, codes, decimal, string_bytes, vec_items};
 ghost use Rattle.traces.specs.Logs.{entry_of, outcome_of};
 
 use crate::calls::PairCall;
@@ -180,15 +181,19 @@ pub fn tell_crossed(event: &Event<Crossed<Pair>>, heap: Global) -> Result<Told, 
 }
 
 // A text with records behind it.
-fn append(mut text: String, records: &[Pair], heap: Global) -> Result<String, AllocError> {
+fn append(mut text: String, records: &[Pair], heap: Global) -> Result<String, AllocError>
+    ensures { IfOk result (λ whole. string_bytes whole ≡ string_bytes text ++ records_text records.now) }
+{
     for record in records {
-        text.push_str(", ")?;
-        text.push_str(record.to_string(heap)?.as_str())?;
+        let piece = format!(in heap; ", {record}")?;
+        text.push_str(piece.as_str())?;
     }
     Ok(text)
 }
 
-fn refusal_name(refusal: u8) -> &'static str {
+fn refusal_name(refusal: u8) -> &'static str
+    ensures { result.now ≡ refusal_text refusal }
+{
     match refusal {
         1 => "refused 1, these share a key",
         2 => "refused 2, full",
@@ -198,25 +203,38 @@ fn refusal_name(refusal: u8) -> &'static str {
     }
 }
 
-// The answer of a call. A refusal is shown with its number; then come the records that the answer has.
-pub fn answer_text(call: &PairCall, told: &Told, heap: Global) -> Result<String, AllocError> {
+// How many slots a shrink left, and what its scratch holds.
+fn shrunk_text(count: usize, scratch: &[u32], heap: Global) -> Result<String, AllocError>
+    ensures { IfOk result (λ text. string_bytes text ≡ decimal count ++ (codes " slots left, scratch " ++ numbers_text scratch.now)) }
+{
+    format!(in heap; "{count} slots left, scratch {scratch:?}")
+}
+
+// The answer of a call that was not refused, with the records that the answer has.
+fn accepted_text(call: &PairCall, told: &Told, heap: Global) -> Result<String, AllocError>
+    ensures { IfOk result (λ text. string_bytes text ≡ accepted_line call.now (told_entry told.now)) }
+{
     let slot = told.answer.slot;
     let count = told.answer.count;
-    if told.answer.refusal != 0 {
-        let text = String::from_str(heap, refusal_name(told.answer.refusal))?;
-        return append(text, told.answer.records.as_slice(), heap);
-    }
     match call {
         Call::Len => format!(in heap; "{count} standing"),
         Call::Retain(_) => format!(in heap; "{count} left standing"),
-        Call::Shrink(_) => {
-            let scratch = told.scratch.as_slice();
-            format!(in heap; "{count} slots left, scratch {scratch:?}")
-        }
+        Call::Shrink(_) => shrunk_text(count, told.scratch.as_slice(), heap),
         _ => append(
             format!(in heap; "slot {slot}")?,
             told.answer.records.as_slice(),
             heap,
         ),
     }
+}
+
+// The answer of a call. A refusal is shown with its number; then come the records that the answer has.
+pub fn answer_text(call: &PairCall, told: &Told, heap: Global) -> Result<String, AllocError>
+    ensures { IfOk result (λ text. string_bytes text ≡ answer_line call.now (told_entry told.now)) }
+{
+    if told.answer.refusal == 0 {
+        return accepted_text(call, told, heap);
+    }
+    let text = String::from_str(heap, refusal_name(told.answer.refusal))?;
+    append(text, told.answer.records.as_slice(), heap)
 }
