@@ -1,4 +1,5 @@
 mod Counted
 mod Equality
 mod Likely
+mod Numbers
 mod Written

@@ -1,5 +1,5 @@
 -- When what two runs told is alike.
-use Rattle.std.specs.Prelude.{Bool, ◌&&◌, ◌==◌, List, map, length}
+use Rattle.std.specs.Prelude.{ℕ, Bool, ◌&&◌, ◌==◌, List, map, length, Result, Ok, Err}
 use Rattle.std.specs.List.{list_all}
 use Rattle.base.specs.Counting.{times}
 use Rattle.item.specs.declared.crossed.Crossed.{Crossed}
@@ -7,6 +7,8 @@ use Rattle.model.specs.Answers.{Answer}
 use Rattle.traces.specs.Laws.{over}
 use Rattle.traces.specs.Runs.{Entry}
 use Rattle.worked_cases.specs.declared.Pair.{Pair}
+use Rattle.agree.specs.declared.telling.Given.{Given}
+use Rattle.agree.specs.declared.telling.Refusal.{Refusal}
 
 abbrev pub same_pair : Pair → Pair → Bool
 same_pair a b = a.first == b.first && a.second == b.second
@@ -18,6 +20,11 @@ as_often xs ys p = times (same_pair p) xs == times (same_pair p) ys
 -- two lists are as long, and each pair of the first is in both as often
 abbrev pub same_pairs : List Pair → List Pair → Bool
 same_pairs xs ys = length xs == length ys && list_all (as_often xs ys) xs
+
+-- the count that a call gave, or why it was refused
+abbrev pub count_or_refusal : Result Given Refusal → Result ℕ Refusal
+count_or_refusal (Ok g) = Ok g.count
+count_or_refusal (Err e) = Err e
 
 abbrev pub overs : List Pair → List (Crossed Pair)
 overs xs = map over xs

@@ -9,8 +9,10 @@ use Rattle.worked_cases.specs.Pairs.{pair, pair_text}
 use Rattle.worked_cases.specs.declared.First.{First}
 use Rattle.worked_cases.specs.declared.Pair.{Pair}
 use Rattle.worked_cases.specs.declared.Second.{Second}
+use Rattle.agree.specs.Tellings.{number_of}
 use Rattle.agree.specs.Totals.{Totals, capped_sum}
 use Rattle.agree.specs.declared.calls.AtLeast.{AtLeast}
+use Rattle.agree.specs.declared.telling.Refusal.{Refusal}
 
 -- a name and a number behind it
 abbrev pub number_line : List ℕ → ℕ → List ℕ
@@ -54,6 +56,10 @@ refusal_text e =
     (cond (e == 2) (codes "refused 2, full")
     (cond (e == 3) (codes "refused 3, not there")
     (cond (e == 7) (codes "refused 7, scratch too short") (codes "refused"))))
+
+-- the same of a refusal of the program
+abbrev pub refusal_line : Refusal → List ℕ
+refusal_line e = refusal_text (number_of e)
 
 -- numbers, the first behind `lead` and each other behind a comma
 abbrev pub numbers_behind : List ℕ → List ℕ → List ℕ

@@ -1,5 +1,5 @@
 -- How many records were taken in, handed back and rejected, and those that stand.
-use Rattle.std.specs.Prelude.{ℕ, ◌+◌, Bool, List, [], length, min, nat_le, vec_items}
+use Rattle.std.specs.Prelude.{ℕ, ◌+◌, Bool, List, [], length, min, nat_le}
 use Rattle.model.specs.Answers.{Answer}
 use Rattle.traces.specs.Calls.{request_of}
 use Rattle.traces.specs.Laws.{by_call, took, gave, refuses}
@@ -8,7 +8,6 @@ use Rattle.traces.specs.declared.Call.{Call}
 use Rattle.worked_cases.specs.declared.First.{First}
 use Rattle.worked_cases.specs.declared.Pair.{Pair}
 use Rattle.worked_cases.specs.declared.Second.{Second}
-use Rattle.agree.specs.declared.balance.Balance.{Balance}
 use Rattle.agree.specs.declared.calls.AtLeast.{AtLeast}
 
 -- the first number of a pair is at least the bound
@@ -23,9 +22,6 @@ pub record Totals : Type 0 where
 
 abbrev pub no_totals : Totals
 no_totals = record { taken = 0; handed = 0; rejected = 0; standing = [] }
-
-abbrev pub totals_of : Balance → Totals
-totals_of b = record { taken = b.taken; handed = b.handed; rejected = b.rejected; standing = vec_items b.standing }
 
 -- a sum that stops at the largest number of 64 bits
 abbrev pub capped_sum : ℕ → ℕ → ℕ

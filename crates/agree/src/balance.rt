@@ -1,14 +1,16 @@
 // What became of the records that were taken in.
 ghost use Rattle.agree.specs.Tellings.{model_answer, told_entry};
 ghost use Rattle.agree.specs.Texts.{totals_line, verdict};
-ghost use Rattle.agree.specs.Totals.{at_least, no_totals, totals_of, noted, count_taken, count_handed, count_rejected};
-ghost use Rattle.std.specs.Prelude.{◌≡◌, IfOk, length, string_bytes};
+ghost use Rattle.agree.specs.Totals.{at_least, no_totals, noted, count_taken, count_handed, count_rejected};
+ghost use Rattle.std.specs.Prelude.{◌≡◌, Some, length};
 ghost use Rattle.traces.specs.Laws.{failing};
 
 use crate::calls::{AtLeast, PairCall};
 use crate::telling::{Answer, Told};
 use item::predicate::Predicate;
-use std::alloc::{AllocError, Global};
+use std::alloc::Global;
+use std::fmt;
+use std::marker::Model;
 use traces::Call;
 use worked_cases::Pair;
 
@@ -19,6 +21,17 @@ pub struct Balance {
     handed: usize,
     rejected: usize,
     standing: Vec<Pair>,
+}
+
+// A balance is its totals.
+impl Model for Balance {
+    ghost use Rattle.agree.specs.Totals.{Totals};
+
+    ghost Value = { Totals };
+
+    ghost use Rattle.agree.specs.Balances.{totals_of};
+
+    ghost view = { totals_of };
 }
 
 // How many records a predicate rejects.
@@ -36,7 +49,9 @@ fn taken(call: &PairCall, answer: &Answer<Pair>) -> usize
     ensures { result ≡ count_taken call.now (model_answer answer.now) }
 {
     match call {
-        Call::Insert(_) | Call::Overwrite(_) | Call::Replace(_) => usize::from(answer.refusal == 0),
+        Call::Insert(_) | Call::Overwrite(_) | Call::Replace(_) => usize::from(
+            answer.given.is_ok(),
+        ),
         _ => 0,
     }
 }
@@ -68,7 +83,7 @@ fn rejected(call: &PairCall, before: &[Pair]) -> usize
 impl Balance {
     // Of a map with no records.
     pub fn new(heap: Global) -> Balance
-        ensures { totals_of result ≡ no_totals }
+        ensures { result ≡ no_totals }
     {
         Balance {
             taken: 0,
@@ -80,7 +95,7 @@ impl Balance {
 
     // Counts in what a call did.
     pub fn note(&mut self, call: &PairCall, told: Told)
-        ensures { totals_of self.new ≡ noted (totals_of self.old) call.now (told_entry told) }
+        ensures { self.new ≡ noted self.old call.now (told_entry told) }
     {
         self.taken = self.taken.saturating_add(taken(call, &told.answer));
         self.handed = self.handed.saturating_add(handed(call, &told.answer));
@@ -92,7 +107,7 @@ impl Balance {
 
     // Whether the sum comes out.
     fn verdict(&self) -> &'static str
-        ensures { result.now ≡ verdict (totals_of self.now) }
+        ensures { result.now ≡ verdict self.now }
     {
         let gone = self.handed.saturating_add(self.rejected);
         if self.taken == gone.saturating_add(self.standing.len()) {
@@ -101,17 +116,20 @@ impl Balance {
             "NOT BALANCED"
         }
     }
+}
 
-    // The sum, and whether it comes out.
-    pub fn text(&self, heap: Global) -> Result<String, AllocError>
-        ensures { IfOk result (λ text. string_bytes text ≡ totals_line (totals_of self.now)) }
-    {
+// The sum, and whether it comes out.
+impl fmt::Display for Balance {
+    ghost output = { λ balance. Some (totals_line balance) };
+
+    fn fmt<W: fmt::Write>(&self, f: &mut fmt::Formatter<W>) -> fmt::Result {
         let taken = self.taken;
         let handed = self.handed;
         let rejected = self.rejected;
         let standing = self.standing.len();
         let verdict = self.verdict();
-        format!(in heap;
+        write!(
+            f,
             "taken in {taken}, handed back {handed}, rejected {rejected}, standing {standing}: {verdict}"
         )
     }

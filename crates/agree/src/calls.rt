@@ -1,10 +1,10 @@
 // The calls that a trace of pairs has, and how they are written.
-ghost use Rattle.agree.specs.Texts.{call_line, pair_line, number_line};
+ghost use Rattle.agree.specs.Texts.{call_line};
 ghost use Rattle.agree.specs.Totals.{at_least};
-ghost use Rattle.std.specs.Prelude.{◌≡◌, IfOk, string_bytes};
+ghost use Rattle.std.specs.Prelude.{Some};
 
 use item::predicate::Predicate;
-use std::alloc::{AllocError, Global};
+use std::fmt;
 use traces::Call;
 use worked_cases::{First, Pair, Second};
 
@@ -27,49 +27,26 @@ impl Predicate for AtLeast {
 pub type PairCall = Call<Pair, First, Second, AtLeast>;
 
 // A call as a trace has it.
-pub fn call_text(call: &PairCall, heap: Global) -> Result<String, AllocError>
-    ensures { IfOk result (λ text. string_bytes text ≡ call_line call.now) }
-{
-    match call {
-        Call::Insert(pair) => with_pair("insert", pair, heap),
-        Call::Overwrite(pair) => with_pair("overwrite", pair, heap),
-        Call::Replace(pair) => with_pair("replace", pair, heap),
-        Call::Get1(key) => with_number("get1", usize::from(key.number), heap),
-        Call::Get2(key) => with_number("get2", usize::from(key.value), heap),
-        Call::GetUnique(key1, key2) => with_pair(
-            "get",
-            &Pair {
-                first: key1.number,
-                second: key2.value,
-            },
-            heap,
-        ),
-        Call::Remove1(key) => with_number("remove1", usize::from(key.number), heap),
-        Call::Remove2(key) => with_number("remove2", usize::from(key.value), heap),
-        Call::RemoveUnique(key1, key2) => with_pair(
-            "remove",
-            &Pair {
-                first: key1.number,
-                second: key2.value,
-            },
-            heap,
-        ),
-        Call::Retain(predicate) => with_number("retain", usize::from(predicate.bound), heap),
-        Call::Shrink(scratch) => with_number("shrink", scratch.len(), heap),
-        Call::Len => String::from_str(heap, "len"),
+#[derive(Clone, Copy)]
+pub struct Written<'a>(pub &'a PairCall);
+
+impl fmt::Display for Written<'_> {
+    ghost output = { λ written. Some (call_line written.0.now) };
+
+    fn fmt<W: fmt::Write>(&self, f: &mut fmt::Formatter<W>) -> fmt::Result {
+        match self.0 {
+            Call::Insert(pair) => write!(f, "insert {} {}", pair.first, pair.second),
+            Call::Overwrite(pair) => write!(f, "overwrite {} {}", pair.first, pair.second),
+            Call::Replace(pair) => write!(f, "replace {} {}", pair.first, pair.second),
+            Call::Get1(key) => write!(f, "get1 {}", key.number),
+            Call::Get2(key) => write!(f, "get2 {}", key.value),
+            Call::GetUnique(key1, key2) => write!(f, "get {} {}", key1.number, key2.value),
+            Call::Remove1(key) => write!(f, "remove1 {}", key.number),
+            Call::Remove2(key) => write!(f, "remove2 {}", key.value),
+            Call::RemoveUnique(key1, key2) => write!(f, "remove {} {}", key1.number, key2.value),
+            Call::Retain(predicate) => write!(f, "retain {}", predicate.bound),
+            Call::Shrink(scratch) => write!(f, "shrink {}", scratch.len()),
+            Call::Len => f.write_str("len"),
+        }
     }
-}
-
-fn with_number(name: &str, number: usize, heap: Global) -> Result<String, AllocError>
-    ensures { IfOk result (λ text. string_bytes text ≡ number_line name.now number) }
-{
-    format!(in heap; "{name} {number}")
-}
-
-fn with_pair(name: &str, pair: &Pair, heap: Global) -> Result<String, AllocError>
-    ensures { IfOk result (λ text. string_bytes text ≡ pair_line name.now pair.now) }
-{
-    let first = pair.first;
-    let second = pair.second;
-    format!(in heap; "{name} {first} {second}")
 }

@@ -1,7 +1,6 @@
 // Reads traces of calls, runs each on three maps of its own, and says of each call whether the three answered alike.
 #![tactic(auto)]
 
-use agreement::parts::Parts;
 use agreement::{Agreement, agree};
 use base::SENTINEL;
 use hash_table::index::HashedIndex;
@@ -10,6 +9,7 @@ use hashing::flat::Flat;
 use hashing::fnv::Fnv1a;
 use item::crossed::Crossed;
 use item_set::slot::ItemSlot;
+use map_tables::parts::Parts;
 use memory::Memory;
 use memory::lent::Lent;
 use pair_block::PairBlock;
@@ -23,13 +23,14 @@ mod balance;
 mod calls;
 mod comparing;
 mod reading;
+mod report;
 mod telling;
 
 use balance::Balance;
-use calls::{PairCall, call_text};
-use comparing::{alike, alike_crossed};
-use reading::{Line, read_line};
-use telling::{Told, answer_text, tell, tell_crossed};
+use calls::PairCall;
+use reading::{Line, ReadError, read_line};
+use report::Report;
+use telling::{Told, tell, tell_crossed};
 
 // How many places the memories and the lent tables have.
 const ROOM: usize = 64;
@@ -88,12 +89,10 @@ fn read_scripts(rt: &HostRuntime) -> io::Result<Vec<Script>> {
         wanted: ROOM,
         calls: Vec::new(rt.alloc()),
     };
-    let mut number = 0u64;
-    for line in rt.lines(rt.alloc()) {
-        number = number.saturating_add(1);
-        match read_line(line?.as_str(), rt.alloc())? {
-            Line::Blank => {}
-            Line::Capacity(wanted) => {
+    for (line, number) in rt.lines(rt.alloc()).zip(1u64..) {
+        match read_line(line?.as_str(), rt.alloc()) {
+            Ok(Line::Blank) => {}
+            Ok(Line::Capacity(wanted)) => {
                 if !script.calls.is_empty() {
                     scripts.push(script)?;
                     script = Script {
@@ -103,51 +102,19 @@ fn read_scripts(rt: &HostRuntime) -> io::Result<Vec<Script>> {
                 }
                 script.wanted = wanted;
             }
-            Line::Call(call) => script.calls.push(call)?,
-            Line::Unread(expected) => println!(rt; "line {number}: not read, expected {expected}")?,
+            Ok(Line::Call(call)) => script.calls.push(call)?,
+            Err(ReadError::Expected(expected)) => println!(rt;
+                "line {number}: not read, expected {expected}"
+            )?,
+            Err(ReadError::OutOfMemory(error)) => return Err(error.into()),
         }
     }
     scripts.push(script)?;
     Ok(scripts)
 }
 
-// Where another run answered otherwise, its answer.
-fn difference(
-    call: &PairCall,
-    same: bool,
-    other: &Told,
-    run: &str,
-    heap: Global,
-) -> Result<String, AllocError> {
-    if same {
-        return Ok(String::new(heap));
-    }
-    let answer = answer_text(call, other, heap)?;
-    format!(in heap; "; NOT ALIKE {run}: {answer}")
-}
-
-// One line of the report: a call, its answer, and whether the other runs answered alike.
-fn line_text(
-    call: &PairCall,
-    first: &Told,
-    second: &Told,
-    crossed: &Told,
-    heap: Global,
-) -> Result<String, AllocError> {
-    let text = call_text(call, heap)?;
-    let answer = answer_text(call, first, heap)?;
-    let same = alike(first, second);
-    let same_crossed = alike_crossed(first, crossed);
-    if same && same_crossed {
-        return format!(in heap; "{text}: {answer}; alike");
-    }
-    let on_second = difference(call, same, second, "on the second map", heap)?;
-    let on_third = difference(call, same_crossed, crossed, "with the keys exchanged", heap)?;
-    format!(in heap; "{text}: {answer}{on_second}{on_third}")
-}
-
 // Reports a call, and answers what the first map told of it.
-fn report(
+fn report_call(
     rt: &HostRuntime,
     call: &PairCall,
     first: &Event<Pair>,
@@ -156,14 +123,15 @@ fn report(
 ) -> io::Result<Told> {
     let heap = rt.alloc();
     let first = tell(first, heap)?;
-    let line = line_text(
+    let second = tell(second, heap)?;
+    let crossed = tell_crossed(crossed, heap)?;
+    let report = Report {
         call,
-        &first,
-        &tell(second, heap)?,
-        &tell_crossed(crossed, heap)?,
-        heap,
-    )?;
-    println!(rt; "{line}")?;
+        first: &first,
+        second: &second,
+        crossed: &crossed,
+    };
+    println!(rt; "{report}")?;
     Ok(first)
 }
 
@@ -172,18 +140,16 @@ fn report_all(rt: &HostRuntime, script: &Script, agreement: &Agreement<Pair>) ->
     let capacity = agreement.capacity;
     println!(rt; "capacity {capacity}")?;
     let mut balance = Balance::new(rt.alloc());
-    for (i, call) in script.calls.iter().enumerate() {
-        if let (Some(first), Some(second), Some(crossed)) = (
-            agreement.first.get(i),
-            agreement.second.get(i),
-            agreement.crossed.get(i),
-        ) {
-            let told = report(rt, call, first, second, crossed)?;
-            balance.note(call, told);
-        }
+    let told = agreement
+        .first
+        .iter()
+        .zip(agreement.second.iter())
+        .zip(agreement.crossed.iter());
+    for (call, ((first, second), crossed)) in script.calls.iter().zip(told) {
+        let told = report_call(rt, call, first, second, crossed)?;
+        balance.note(call, told);
     }
-    let totals = balance.text(rt.alloc())?;
-    println!(rt; "{totals}")
+    println!(rt; "{balance}")
 }
 
 fn main(rt: HostRuntime) -> io::Result<()> {

@@ -1,51 +1,80 @@
 // A trace as text, one call to a line: a name and its numbers. A line with nothing on it, or a remark behind '#', is no call.
+ghost use Rattle.agree.specs.Reading.{number, request_said, pair_said, key_said, said_of, one_said, two_said, named, texts, expected, form_text, read_words, Reads, ReadsLine};
+ghost use Rattle.agree.specs.declared.reading.ReadError.TheVariants.{OutOfMemory};
+ghost use Rattle.std.specs.Prelude.{◌≡◌, IfOk, Some, option_map};
+
 use crate::calls::{AtLeast, PairCall};
 use item::BiHashItem;
 use std::alloc::{AllocError, Global};
+use std::fmt;
 use traces::Call;
 use worked_cases::{First, Pair, Second};
 
-// What a line says, or what was expected there.
+// What a line says.
 #[derive(Drop)]
 pub enum Line {
     Blank,
     Capacity(usize),
     Call(PairCall),
-    Unread(&'static str),
 }
 
-// The numbers behind a name. Where a word is no number, or there are more than two, a line cannot be read.
-#[derive(Clone, Copy)]
-enum Numbers {
-    Nothing,
-    One(u16),
-    Two(u16, u16),
-    Other,
+// What a line that cannot be read would have behind its name, or a name that there is.
+#[derive(Clone, Copy, PartialEq, Eq, Debug)]
+pub enum Form {
+    TwoKeys,
+    OneKey,
+    OnePlace,
+    NoNumber,
+    Name,
 }
 
-fn number(word: Option<&str>) -> Option<u16> {
-    match word {
-        Some(word) => word.parse::<u16>().ok(),
-        None => None,
+impl fmt::Display for Form {
+    ghost output = { λ form. Some (form_text form) };
+
+    fn fmt<W: fmt::Write>(&self, f: &mut fmt::Formatter<W>) -> fmt::Result {
+        match self {
+            Form::TwoKeys => f.write_str("two numbers up to 255"),
+            Form::OneKey => f.write_str("one number up to 255"),
+            Form::OnePlace => f.write_str("one number up to 65535"),
+            Form::NoNumber => f.write_str("no number"),
+            Form::Name => f.write_str(
+                "insert, overwrite, replace, get1, get2, get, remove1, remove2, remove, retain, shrink, len or capacity",
+            ),
+        }
     }
 }
 
-fn read_numbers(first: Option<&str>, second: Option<&str>, third: Option<&str>) -> Numbers {
-    if third.is_some() {
-        return Numbers::Other;
+// Why a line was not read: it says nothing that there is, or there was no memory for what it says.
+#[derive(Clone, Copy, PartialEq, Eq)]
+pub enum ReadError {
+    Expected(Form),
+    OutOfMemory(AllocError),
+}
+
+impl From<AllocError> for ReadError {
+    ghost from_gives = { λ error e. e ≡ OutOfMemory error };
+
+    fn from(error: AllocError) -> ReadError {
+        ReadError::OutOfMemory(error)
     }
-    if first.is_none() {
-        return Numbers::Nothing;
-    }
-    match (number(first), number(second)) {
-        (Some(a), Some(b)) => Numbers::Two(a, b),
-        (Some(a), None) if second.is_none() => Numbers::One(a),
-        _ => Numbers::Other,
-    }
+}
+
+fn key(word: &str) -> Option<u8>
+    ensures { result ≡ number 8 word.now }
+{
+    word.parse::<u8>().ok()
+}
+
+fn count(word: &str) -> Option<u16>
+    ensures { result ≡ number 16 word.now }
+{
+    word.parse::<u16>().ok()
 }
 
 // A call with two numbers, by its name.
-fn call_of_pair(name: &str, pair: Pair) -> Option<PairCall> {
+fn call_of_pair(name: &str, pair: Pair) -> Option<PairCall>
+    ensures { option_map request_said result ≡ pair_said name.now pair }
+{
     match name {
         "insert" => Some(Call::Insert(pair)),
         "overwrite" => Some(Call::Overwrite(pair)),
@@ -57,7 +86,9 @@ fn call_of_pair(name: &str, pair: Pair) -> Option<PairCall> {
 }
 
 // A call with one number that is a key, by its name.
-fn call_of_key(name: &str, key: u8) -> Option<PairCall> {
+fn call_of_key(name: &str, key: u8) -> Option<PairCall>
+    ensures { option_map request_said result ≡ key_said name.now key }
+{
     match name {
         "get1" => Some(Call::Get1(First { number: key })),
         "get2" => Some(Call::Get2(Second { value: key })),
@@ -68,58 +99,77 @@ fn call_of_key(name: &str, key: u8) -> Option<PairCall> {
     }
 }
 
-// A call by its name and its numbers, if there is one. A shrink brings a scratch of as many places, each 0.
-fn read_call(name: &str, numbers: Numbers, heap: Global) -> Result<Option<PairCall>, AllocError> {
-    match numbers {
-        Numbers::Nothing if name == "len" => Ok(Some(Call::Len)),
-        Numbers::One(places) if name == "shrink" => Ok(Some(Call::Shrink(
-            vec![in heap; 0u32; usize::from(places)]?,
-        ))),
-        Numbers::One(key) => match u8::try_from(key) {
-            Ok(key) => Ok(call_of_key(name, key)),
-            Err(_) => Ok(None),
+// What a line would have behind its name.
+fn expected(name: &str) -> Form
+    ensures { result ≡ expected name.now }
+{
+    match name {
+        "insert" | "overwrite" | "replace" | "get" | "remove" => Form::TwoKeys,
+        "get1" | "get2" | "remove1" | "remove2" | "retain" => Form::OneKey,
+        "shrink" | "capacity" => Form::OnePlace,
+        "len" => Form::NoNumber,
+        _ => Form::Name,
+    }
+}
+
+// A line with one number, if it says anything. A shrink brings a scratch of as many places, each 0.
+fn read_one(name: &str, word: &str, heap: Global) -> Result<Option<Line>, AllocError>
+    ensures { IfOk result (λ line. option_map said_of line ≡ one_said name.now word.now) }
+{
+    Ok(match name {
+        "capacity" => count(word).map(|wanted| Line::Capacity(usize::from(wanted))),
+        "shrink" => match count(word) {
+            Some(places) => {
+                let scratch = vec![in heap; 0u32; usize::from(places)]?;
+                Some(Line::Call(Call::Shrink(scratch)))
+            }
+            None => None,
         },
-        Numbers::Two(first, second) => match (u8::try_from(first), u8::try_from(second)) {
-            (Ok(first), Ok(second)) => Ok(call_of_pair(name, Pair { first, second })),
-            _ => Ok(None),
-        },
+        _ => key(word)
+            .and_then(|key| call_of_key(name, key))
+            .map(Line::Call),
+    })
+}
+
+// A line with two.
+fn read_two(name: &str, first: &str, second: &str) -> Option<Line>
+    ensures { option_map said_of result ≡ two_said name.now first.now second.now }
+{
+    let (first, second) = (key(first)?, key(second)?);
+    call_of_pair(name, Pair { first, second }).map(Line::Call)
+}
+
+// A line by its name and the words behind that, if it says anything.
+fn read_named(name: &str, words: &[&str], heap: Global) -> Result<Option<Line>, AllocError>
+    ensures { IfOk result (λ line. option_map said_of line ≡ named name.now (texts words.now)) }
+{
+    match *words {
+        [] if name == "len" => Ok(Some(Line::Call(Call::Len))),
+        [word] => read_one(name, word, heap),
+        [first, second] => Ok(read_two(name, first, second)),
         _ => Ok(None),
     }
 }
 
-// What a line with a name would be.
-fn expected(name: &str) -> &'static str {
-    match name {
-        "insert" | "overwrite" | "replace" | "get" | "remove" => "two numbers up to 255",
-        "get1" | "get2" | "remove1" | "remove2" | "retain" => "one number up to 255",
-        "shrink" | "capacity" => "one number up to 65535",
-        "len" => "no number",
-        _ =>
-            "insert, overwrite, replace, get1, get2, get, remove1, remove2, remove, retain, shrink, len or capacity",
+// A line by its words.
+fn read_words(words: &[&str], heap: Global) -> Result<Line, ReadError>
+    ensures { Reads result (read_words (texts words.now)) }
+{
+    match *words {
+        [] => Ok(Line::Blank),
+        [name, ref rest @ ..] => {
+            if name.starts_with('#') {
+                return Ok(Line::Blank);
+            }
+            read_named(name, rest, heap)?.ok_or_else(|| ReadError::Expected(expected(name)))
+        }
     }
 }
 
 // Reads one line.
-pub fn read_line(text: &str, heap: Global) -> Result<Line, AllocError> {
-    let mut words = text.split_whitespace();
-    let Some(name) = words.next() else {
-        return Ok(Line::Blank);
-    };
-    if name.starts_with('#') {
-        return Ok(Line::Blank);
-    }
-    let first = words.next();
-    let second = words.next();
-    let third = words.next();
-    let numbers = read_numbers(first, second, third);
-    match numbers {
-        Numbers::One(wanted) if name == "capacity" => return Ok(Line::Capacity(usize::from(
-            wanted,
-        ))),
-        _ => {}
-    }
-    match read_call(name, numbers, heap)? {
-        Some(call) => Ok(Line::Call(call)),
-        None => Ok(Line::Unread(expected(name))),
-    }
+pub fn read_line(text: &str, heap: Global) -> Result<Line, ReadError>
+    ensures { ReadsLine text.now result }
+{
+    let words: Vec<&str> = text.split_whitespace().collect(heap)?;
+    read_words(words.as_slice(), heap)
 }

@@ -1,24 +1,53 @@
-// What a call left behind, as numbers and records, and its answer as a line shows it.
-ghost use Rattle.agree.specs.Tellings.{model_answer, told_entry, insides, uncrossed};
-ghost use Rattle.agree.specs.Texts.{accepted_line, answer_line, numbers_text, records_text, refusal_text};
-ghost use Rattle.model.specs.Answers.{refused};
-ghost use Rattle.model.specs.Told.{looked, overwritten, refusal};
-ghost use Rattle.std.specs.Prelude.{◌≡◌, [], ◌++◌, Ok, IfOk, codes, decimal, string_bytes, vec_items};
+// What a call left behind: what it gave or why it was refused, and records; and its answer as a line shows it.
+ghost use Rattle.agree.specs.Tellings.{model_answer, number_of, told_entry, insides, uncrossed};
+ghost use Rattle.agree.specs.Texts.{answer_line, numbers_text, records_text, refusal_line};
+ghost use Rattle.model.specs.Answers.{counted, placed, refused};
+ghost use Rattle.model.specs.Told.{shared, listed, looked, refusal};
+ghost use Rattle.std.specs.Prelude.{◌≡◌, [], ◌++◌, IfOk, Ok, Some, vec_items};
 ghost use Rattle.traces.specs.Logs.{entry_of, outcome_of};
 
 use crate::calls::PairCall;
 use item::crossed::Crossed;
-use model::{Displaced, Duplicates, Found, MapRefusal, Overwritten, ScratchShort};
+use model::{Duplicates, Found, MapRefusal, ScratchShort};
 use std::alloc::{AllocError, Global};
+use std::fmt;
 use traces::{Call, Event, Outcome};
 use worked_cases::Pair;
 
-// 0 or the refusal's number; a slot; a count; and records, in their order.
-#[derive(Drop, PartialEq, Eq)]
-pub struct Answer<T> {
-    pub refusal: u8,
+// Why a call was refused.
+#[derive(Clone, Copy, PartialEq, Eq)]
+pub enum Refusal {
+    SharedKey,
+    Full,
+    NotThere,
+    ScratchShort,
+}
+
+// With its number.
+impl fmt::Display for Refusal {
+    ghost output = { λ refusal. Some (refusal_line refusal) };
+
+    fn fmt<W: fmt::Write>(&self, f: &mut fmt::Formatter<W>) -> fmt::Result {
+        match self {
+            Refusal::SharedKey => f.write_str("refused 1, these share a key"),
+            Refusal::Full => f.write_str("refused 2, full"),
+            Refusal::NotThere => f.write_str("refused 3, not there"),
+            Refusal::ScratchShort => f.write_str("refused 7, scratch too short"),
+        }
+    }
+}
+
+// What a call that was not refused gave: a slot and a count, 0 where it gives none.
+#[derive(Clone, Copy, PartialEq, Eq)]
+pub struct Given {
     pub slot: u32,
     pub count: usize,
+}
+
+// What a call gave, or why it was refused; and records, in their order.
+#[derive(Drop, PartialEq, Eq)]
+pub struct Answer<T> {
+    pub given: Result<Given, Refusal>,
     pub records: Vec<T>,
 }
 
@@ -30,15 +59,57 @@ pub struct Told {
     pub standing: Vec<Pair>,
 }
 
-// An answer with a refusal's number and no records.
-fn bare<T>(refusal: u8, heap: Global) -> Answer<T>
-    ensures { model_answer result ≡ refused refusal [] }
+fn placed<T>(slot: u32, records: Vec<T>) -> Answer<T>
+    ensures { model_answer result ≡ placed slot records.items }
 {
     Answer {
-        refusal,
-        slot: 0,
-        count: 0,
+        given: Ok(Given { slot, count: 0 }),
+        records,
+    }
+}
+
+fn counted<T>(count: usize, heap: Global) -> Answer<T>
+    ensures { model_answer result ≡ counted count }
+{
+    Answer {
+        given: Ok(Given { slot: 0, count }),
         records: Vec::new(heap),
+    }
+}
+
+// Without records.
+fn bare<T>(refusal: Refusal, heap: Global) -> Answer<T>
+    ensures { model_answer result ≡ refused (number_of refusal) [] }
+{
+    Answer {
+        given: Err(refusal),
+        records: Vec::new(heap),
+    }
+}
+
+// Records, and those that share a key behind them.
+fn with_duplicates<T: Copy>(
+    mut records: Vec<T>,
+    duplicates: &Duplicates<T>,
+) -> Result<Vec<T>, AllocError>
+    ensures { IfOk result (λ all. vec_items all ≡ vec_items records ++ listed duplicates.now) }
+{
+    match *duplicates {
+        Duplicates::One(a) => records.push(a)?,
+        Duplicates::Two(a, b) => {
+            records.push(a)?;
+            records.push(b)?;
+        }
+    }
+    Ok(records)
+}
+
+fn displaced<T: Copy>(displaced: &Option<Duplicates<T>>, heap: Global) -> Result<Vec<T>, AllocError>
+    ensures { IfOk result (λ records. vec_items records ≡ shared displaced.now) }
+{
+    match displaced {
+        None => Ok(Vec::new(heap)),
+        Some(duplicates) => with_duplicates(Vec::new(heap), duplicates),
     }
 }
 
@@ -50,43 +121,14 @@ fn refused<T: Copy>(refused: &MapRefusal<T>, heap: Global) -> Result<Answer<T>, 
         MapRefusal::Duplicate(duplicate) => {
             let mut records = Vec::new(heap);
             records.push(duplicate.new)?;
-            match duplicate.duplicates {
-                Duplicates::One(a) => records.push(a)?,
-                Duplicates::Two(a, b) => {
-                    records.push(a)?;
-                    records.push(b)?;
-                }
-            }
             Ok(Answer {
-                refusal: 1,
-                slot: 0,
-                count: 0,
-                records,
+                given: Err(Refusal::SharedKey),
+                records: with_duplicates(records, &duplicate.duplicates)?,
             })
         }
-        MapRefusal::Full => Ok(bare(2, heap)),
-        MapRefusal::NotThere => Ok(bare(3, heap)),
+        MapRefusal::Full => Ok(bare(Refusal::Full, heap)),
+        MapRefusal::NotThere => Ok(bare(Refusal::NotThere, heap)),
     }
-}
-
-fn overwritten<T: Copy>(placed: &Overwritten<T>, heap: Global) -> Result<Answer<T>, AllocError>
-    ensures { IfOk result (λ answer. model_answer answer ≡ overwritten (Ok placed.now)) }
-{
-    let mut records = Vec::new(heap);
-    match placed.displaced {
-        Displaced::Nothing => {}
-        Displaced::One(a) => records.push(a)?,
-        Displaced::Two(a, b) => {
-            records.push(a)?;
-            records.push(b)?;
-        }
-    }
-    Ok(Answer {
-        refusal: 0,
-        slot: placed.slot,
-        count: 0,
-        records,
-    })
 }
 
 fn found<T: Copy>(found: &Found<T>, heap: Global) -> Result<Answer<T>, AllocError>
@@ -94,12 +136,7 @@ fn found<T: Copy>(found: &Found<T>, heap: Global) -> Result<Answer<T>, AllocErro
 {
     let mut records = Vec::new(heap);
     records.push(found.item)?;
-    Ok(Answer {
-        refusal: 0,
-        slot: found.slot,
-        count: 0,
-        records,
-    })
+    Ok(placed(found.slot, records))
 }
 
 // What an outcome answers.
@@ -107,30 +144,14 @@ fn answer_of<T: Copy>(outcome: &Outcome<T>, heap: Global) -> Result<Answer<T>, A
     ensures { IfOk result (λ answer. model_answer answer ≡ outcome_of outcome.now) }
 {
     match outcome {
-        Outcome::Inserted(Ok(slot)) => Ok(Answer {
-            refusal: 0,
-            slot: *slot,
-            count: 0,
-            records: Vec::new(heap),
-        }),
-        Outcome::Overwritten(Ok(placed)) => overwritten(placed, heap),
+        Outcome::Inserted(Ok(slot)) => Ok(placed(*slot, Vec::new(heap))),
+        Outcome::Overwritten(Ok(into)) => Ok(placed(into.slot, displaced(&into.displaced, heap)?)),
         Outcome::Found(Ok(standing)) => found(standing, heap),
-        Outcome::Counted(count) => Ok(Answer {
-            refusal: 0,
-            slot: 0,
-            count: *count,
-            records: Vec::new(heap),
-        }),
-        Outcome::Shrunk(Ok(slots)) => Ok(Answer {
-            refusal: 0,
-            slot: 0,
-            count: *slots,
-            records: Vec::new(heap),
-        }),
-        Outcome::Inserted(Err(refusal)) => refused(refusal, heap),
-        Outcome::Overwritten(Err(refusal)) => refused(refusal, heap),
-        Outcome::Found(Err(refusal)) => refused(refusal, heap),
-        Outcome::Shrunk(Err(ScratchShort)) => Ok(bare(7, heap)),
+        Outcome::Counted(count) | Outcome::Shrunk(Ok(count)) => Ok(counted(*count, heap)),
+        Outcome::Inserted(Err(refusal))
+        | Outcome::Overwritten(Err(refusal))
+        | Outcome::Found(Err(refusal)) => refused(refusal, heap),
+        Outcome::Shrunk(Err(ScratchShort)) => Ok(bare(Refusal::ScratchShort, heap)),
     }
 }
 
@@ -152,11 +173,7 @@ pub fn tell(event: &Event<Pair>, heap: Global) -> Result<Told, AllocError>
 fn inner(records: &[Crossed<Pair>], heap: Global) -> Result<Vec<Pair>, AllocError>
     ensures { IfOk result (λ pairs. vec_items pairs ≡ insides records.now) }
 {
-    let mut pairs = Vec::new(heap);
-    for record in records {
-        pairs.push(record.inner)?;
-    }
-    Ok(pairs)
+    records.iter().map(|record| record.inner).collect(heap)
 }
 
 // The same of a run with exchanged keys, with the records as they are in the others.
@@ -164,12 +181,9 @@ pub fn tell_crossed(event: &Event<Crossed<Pair>>, heap: Global) -> Result<Told, 
     ensures { IfOk result (λ told. told_entry told ≡ uncrossed (entry_of event.now)) }
 {
     let crossed = answer_of(&event.outcome, heap)?;
-    let records = inner(crossed.records.as_slice(), heap)?;
     let answer = Answer {
-        refusal: crossed.refusal,
-        slot: crossed.slot,
-        count: crossed.count,
-        records,
+        given: crossed.given,
+        records: inner(crossed.records.as_slice(), heap)?,
     };
     let scratch = Vec::from_slice(heap, event.scratch.as_slice())?;
     let standing = inner(event.standing.as_slice(), heap)?;
@@ -180,61 +194,55 @@ pub fn tell_crossed(event: &Event<Crossed<Pair>>, heap: Global) -> Result<Told, 
     })
 }
 
-// A text with records behind it.
-fn append(mut text: String, records: &[Pair], heap: Global) -> Result<String, AllocError>
-    ensures { IfOk result (λ whole. string_bytes whole ≡ string_bytes text ++ records_text records.now) }
-{
-    for record in records {
-        let piece = format!(in heap; ", {record}")?;
-        text.push_str(piece.as_str())?;
-    }
-    Ok(text)
-}
+// Records, each behind a comma.
+#[derive(Clone, Copy)]
+struct Behind<'a>(&'a [Pair]);
 
-fn refusal_name(refusal: u8) -> &'static str
-    ensures { result.now ≡ refusal_text refusal }
-{
-    match refusal {
-        1 => "refused 1, these share a key",
-        2 => "refused 2, full",
-        3 => "refused 3, not there",
-        7 => "refused 7, scratch too short",
-        _ => "refused",
+impl fmt::Display for Behind<'_> {
+    ghost output = { λ behind. Some (records_text behind.0.now) };
+
+    fn fmt<W: fmt::Write>(&self, f: &mut fmt::Formatter<W>) -> fmt::Result {
+        for record in self.0 {
+            write!(f, ", {record}")?;
+        }
+        Ok(())
     }
 }
 
-// How many slots a shrink left, and what its scratch holds.
-fn shrunk_text(count: usize, scratch: &[u32], heap: Global) -> Result<String, AllocError>
-    ensures { IfOk result (λ text. string_bytes text ≡ decimal count ++ (codes " slots left, scratch " ++ numbers_text scratch.now)) }
-{
-    format!(in heap; "{count} slots left, scratch {scratch:?}")
-}
+// What each place of a scratch holds.
+#[derive(Clone, Copy)]
+struct Scratch<'a>(&'a [u32]);
 
-// The answer of a call that was not refused, with the records that the answer has.
-fn accepted_text(call: &PairCall, told: &Told, heap: Global) -> Result<String, AllocError>
-    ensures { IfOk result (λ text. string_bytes text ≡ accepted_line call.now (told_entry told.now)) }
-{
-    let slot = told.answer.slot;
-    let count = told.answer.count;
-    match call {
-        Call::Len => format!(in heap; "{count} standing"),
-        Call::Retain(_) => format!(in heap; "{count} left standing"),
-        Call::Shrink(_) => shrunk_text(count, told.scratch.as_slice(), heap),
-        _ => append(
-            format!(in heap; "slot {slot}")?,
-            told.answer.records.as_slice(),
-            heap,
-        ),
+impl fmt::Display for Scratch<'_> {
+    ghost output = { λ scratch. Some (numbers_text scratch.0.now) };
+
+    fn fmt<W: fmt::Write>(&self, f: &mut fmt::Formatter<W>) -> fmt::Result {
+        write!(f, "{:?}", self.0)
     }
 }
 
-// The answer of a call. A refusal is shown with its number; then come the records that the answer has.
-pub fn answer_text(call: &PairCall, told: &Told, heap: Global) -> Result<String, AllocError>
-    ensures { IfOk result (λ text. string_bytes text ≡ answer_line call.now (told_entry told.now)) }
-{
-    if told.answer.refusal == 0 {
-        return accepted_text(call, told, heap);
+// The answer of a call, and the records that it has. What was given shows as the call has it.
+#[derive(Clone, Copy)]
+pub struct Shown<'a> {
+    pub call: &'a PairCall,
+    pub told: &'a Told,
+}
+
+impl fmt::Display for Shown<'_> {
+    ghost output = { λ shown. Some (answer_line shown.call.now (told_entry shown.told.now)) };
+
+    fn fmt<W: fmt::Write>(&self, f: &mut fmt::Formatter<W>) -> fmt::Result {
+        let told = self.told;
+        let records = Behind(told.answer.records.as_slice());
+        match (told.answer.given, self.call) {
+            (Err(refusal), _) => write!(f, "{refusal}{records}"),
+            (Ok(given), Call::Len) => write!(f, "{} standing", given.count),
+            (Ok(given), Call::Retain(_)) => write!(f, "{} left standing", given.count),
+            (Ok(given), Call::Shrink(_)) => {
+                let scratch = Scratch(told.scratch.as_slice());
+                write!(f, "{} slots left, scratch {scratch}", given.count)
+            }
+            (Ok(given), _) => write!(f, "slot {}{records}", given.slot),
+        }
     }
-    let text = String::from_str(heap, refusal_name(told.answer.refusal))?;
-    append(text, told.answer.records.as_slice(), heap)
 }

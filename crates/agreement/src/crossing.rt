@@ -11,11 +11,11 @@ use std::alloc::{AllocError, Global};
 use traces::Call;
 
 // The call that does to a map of crossed records what a call does to a map of the records themselves.
-pub fn crossed<T: BiHashItem, P: Predicate<R = T> + Copy>(
-    call: &Call<T, T::K1, T::K2, P>,
+pub fn crossed<T: BiHashItem, Q: Predicate<R = T> + Copy>(
+    call: &Call<T, T::K1, T::K2, Q>,
     heap: Global,
-) -> Result<Call<Crossed<T>, T::K2, T::K1, Inside<P>>, AllocError>
-    ensures { IfOk result (λ c. request_of (keeps_inside P.Predicate.keeps) c ≡ cross (request_of P.Predicate.keeps call.now)) }
+) -> Result<Call<Crossed<T>, T::K2, T::K1, Inside<Q>>, AllocError>
+    ensures { IfOk result (λ c. request_of (keeps_inside Q.Predicate.keeps) c ≡ cross (request_of Q.Predicate.keeps call.now)) }
 {
     match call {
         Call::Insert(value) => Ok(Call::Insert(Crossed { inner: *value })),
@@ -36,11 +36,11 @@ pub fn crossed<T: BiHashItem, P: Predicate<R = T> + Copy>(
 }
 
 // A trace of such calls.
-pub fn crossed_trace<T: BiHashItem, P: Predicate<R = T> + Copy>(
-    trace: &[Call<T, T::K1, T::K2, P>],
+pub fn crossed_trace<T: BiHashItem, Q: Predicate<R = T> + Copy>(
+    trace: &[Call<T, T::K1, T::K2, Q>],
     heap: Global,
-) -> Result<Vec<Call<Crossed<T>, T::K2, T::K1, Inside<P>>>, AllocError>
-    ensures { IfOk result (λ calls. trace_of (keeps_inside P.Predicate.keeps) calls.items ≡ map cross (trace_of P.Predicate.keeps trace.now)) }
+) -> Result<Vec<Call<Crossed<T>, T::K2, T::K1, Inside<Q>>>, AllocError>
+    ensures { IfOk result (λ calls. trace_of (keeps_inside Q.Predicate.keeps) calls.items ≡ map cross (trace_of Q.Predicate.keeps trace.now)) }
 {
     let mut calls = Vec::new(heap);
     for call in trace {

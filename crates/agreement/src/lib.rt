@@ -3,8 +3,9 @@
 #![tactic(auto)]
 
 ghost use Rattle.std.specs.Prelude.{◌≡◌, IfOk};
-ghost use Rattle.agreement.specs.Rooms.{parts_room, common};
+ghost use Rattle.agreement.specs.Rooms.{common};
 ghost use Rattle.indexed_items.specs.Items.{least};
+ghost use Rattle.map_tables.specs.Rooms.{parts_room};
 ghost use Rattle.item.specs.Kinds.{kind_of};
 ghost use Rattle.item_set.specs.States.{fresh};
 ghost use Rattle.traces.specs.Calls.{trace_of};
@@ -13,22 +14,18 @@ ghost use Rattle.traces.specs.Logs.{log_of};
 ghost use Rattle.traces.specs.Runs.{run as runs_to};
 
 use bi_hash_map::BiHashMap;
-use hash_table::HashTable;
-use hashing::WordHash;
 use item::BiHashItem;
 use item::crossed::Crossed;
 use item::predicate::Predicate;
-use item_set::slot::ItemSlot;
-use memory::Memory;
+use item_set::set::MOST;
+use map_tables::parts::MapParts;
 use runs::run;
 use std::alloc::{AllocError, Global};
 use traces::{Call, Event};
 
 pub mod crossing;
-pub mod parts;
 
 use crossing::crossed_trace;
-use parts::{Parts, room};
 
 // What the three runs left behind, and how many records each of the three maps could hold.
 #[derive(Drop)]
@@ -46,32 +43,21 @@ fn common_capacity(wanted: usize, first: usize, second: usize, third: usize) -> 
     MOST.min(wanted.min(first.min(second.min(third))))
 }
 
-// No map holds more.
-const MOST: usize = 4096;
-
 // Makes the calls of a trace on a map of its own.
-fn run_on<
-    T: BiHashItem,
-    M: Memory<ItemSlot<T>> + Drop,
-    A: HashTable + Drop,
-    B: HashTable + Drop,
-    H: WordHash + Drop,
-    P: Predicate<R = T>,
->(
+fn run_on<T: BiHashItem, P: MapParts<T>, Q: Predicate<R = T>>(
     wanted: usize,
-    parts: Parts<M, A, B, H>,
-    trace: &[Call<T, T::K1, T::K2, P>],
+    parts: P,
+    trace: &[Call<T, T::K1, T::K2, Q>],
     heap: Global,
 ) -> Result<Vec<Event<T>>, AllocError>
-    ensures { IfOk result (λ events. log_of events.items ≡ runs_to (kind_of T.BiHashItem T.K1.Key T.K2.Key) (fresh (least wanted (M.Memory.room parts.memory) (A.HashTable.room parts.first) (B.HashTable.room parts.second))) (trace_of P.Predicate.keeps trace.now)) }
+where
+    P::Memory: Drop,
+    P::First: Drop,
+    P::Second: Drop,
+    P::Hasher: Drop,
+    ensures { IfOk result (λ events. log_of events.items ≡ runs_to (kind_of T.BiHashItem T.K1.Key T.K2.Key) (fresh (least wanted (P.Memory.Memory.room (P.MapParts.parts parts).memory) (P.First.HashTable.room (P.MapParts.parts parts).first) (P.Second.HashTable.room (P.MapParts.parts parts).second))) (trace_of Q.Predicate.keeps trace.now)) }
 {
-    let Parts {
-        memory,
-        first,
-        second,
-        state,
-    } = parts;
-    let mut map = BiHashMap::new(wanted, memory, first, second, state);
+    let mut map = BiHashMap::new(wanted, parts);
     run(&mut map, trace, heap)
 }
 
@@ -79,31 +65,35 @@ fn run_on<
 // smallest parts allow, so that all are full at once. The parts are emptied first, whatever they hold.
 pub fn agree<
     T: BiHashItem,
-    M: Memory<ItemSlot<T>> + Drop,
-    A: HashTable + Drop,
-    B: HashTable + Drop,
-    H: WordHash + Drop,
-    N: Memory<ItemSlot<T>> + Drop,
-    C: HashTable + Drop,
-    D: HashTable + Drop,
-    G: WordHash + Drop,
-    O: Memory<ItemSlot<Crossed<T>>> + Drop,
-    E: HashTable + Drop,
-    F: HashTable + Drop,
-    J: WordHash + Drop,
-    P: Predicate<R = T> + Copy,
+    P: MapParts<T> + Drop,
+    O: MapParts<T> + Drop,
+    X: MapParts<Crossed<T>> + Drop,
+    Q: Predicate<R = T> + Copy,
 >(
     wanted: usize,
-    trace: &[Call<T, T::K1, T::K2, P>],
-    one: Parts<M, A, B, H>,
-    two: Parts<N, C, D, G>,
-    three: Parts<O, E, F, J>,
+    trace: &[Call<T, T::K1, T::K2, Q>],
+    one: P,
+    two: O,
+    three: X,
     heap: Global,
 ) -> Result<Agreement<T>, AllocError>
-    ensures capacity { IfOk result (λ a. a.capacity ≡ common wanted (parts_room M.Memory A.HashTable B.HashTable one) (parts_room N.Memory C.HashTable D.HashTable two) (parts_room O.Memory E.HashTable F.HashTable three)) }
-    ensures agreed { IfOk result (λ a. Agreed (kind_of T.BiHashItem T.K1.Key T.K2.Key) a.capacity (trace_of P.Predicate.keeps trace.now) (log_of a.first.items) (log_of a.second.items) (log_of a.crossed.items)) }
+where
+    P::Memory: Drop,
+    P::First: Drop,
+    P::Second: Drop,
+    P::Hasher: Drop,
+    O::Memory: Drop,
+    O::First: Drop,
+    O::Second: Drop,
+    O::Hasher: Drop,
+    X::Memory: Drop,
+    X::First: Drop,
+    X::Second: Drop,
+    X::Hasher: Drop,
+    ensures capacity { IfOk result (λ a. a.capacity ≡ common wanted (parts_room P.Memory.Memory P.First.HashTable P.Second.HashTable (P.MapParts.parts one)) (parts_room O.Memory.Memory O.First.HashTable O.Second.HashTable (O.MapParts.parts two)) (parts_room X.Memory.Memory X.First.HashTable X.Second.HashTable (X.MapParts.parts three))) }
+    ensures agreed { IfOk result (λ a. Agreed (kind_of T.BiHashItem T.K1.Key T.K2.Key) a.capacity (trace_of Q.Predicate.keeps trace.now) (log_of a.first.items) (log_of a.second.items) (log_of a.crossed.items)) }
 {
-    let capacity = common_capacity(wanted, room(&one), room(&two), room(&three));
+    let capacity = common_capacity(wanted, one.room(), two.room(), three.room());
     let exchanged = crossed_trace(trace, heap)?;
     let first = run_on(capacity, one, trace, heap)?;
     let second = run_on(capacity, two, trace, heap)?;

@@ -1,5 +1,5 @@
 -- Counts of lists that were changed: which of them have the same elements, each as often.
-use Rattle.std.proofs.Common.{◌≡◌, ℕ, ◌+◌, ◌<◌, ◌≤◌, Bool, true, false, List, [], ◌∷◌, ◌++◌, map, length, get_or, take, set, sum_by, sym, refl, ap, ◌∙◌, ⊎_elim, arith}
+use Rattle.std.proofs.Common.{◌≡◌, ℕ, ◌+◌, ◌≤◌, Bool, true, List, [], ◌∷◌, ◌++◌, map, length, get_or, take, set, sum_by, sym, refl, ap, ◌∙◌, ⊎_elim, arith}
 use Rattle.std.proofs.lemmas.List.{length-set, take_all, get_or-set_same, get_or-set_other}
 use Rattle.std.proofs.lemmas.List.Sums.{sum_by-cons, sum_by_push, sum_by-set, sum_by_more}
 use Rattle.std.proofs.lemmas.Bool.{cases_eq}
@@ -10,13 +10,6 @@ module _ {X : Type 0} (q : X → Bool) where
   pub times_sum : (xs : List X) → times q xs ≡ sum_by (λ x. one (q x)) xs
   times_sum [] = refl
   times_sum (x ∷ xs) = ap (λ n. one (q x) + n) (times_sum xs) ∙ sym (sum_by-cons (λ y. one (q y)) x xs)
-
-  -- one step of a walk: what is left when an element was passed over
-  pub times_next : (xs ys : List X) (x : X) → xs ≡ x ∷ ys → q x ≡ false → times q ys ≡ times q xs
-  times_next xs ys x e f = let s = ap (times q) e in let z = ap one f in omega arith
-
-  pub times_here : (xs ys : List X) (x : X) → xs ≡ x ∷ ys → q x ≡ true → 0 < times q xs
-  times_here xs ys x e t = let s = ap (times q) e in let z = ap one t in omega arith
 
 module _ {X : Type 0} where
   pub same_push : (xs : List X) (x : X) → Same (xs ++ x ∷ []) (x ∷ xs)

@@ -1,2 +1,2 @@
-mod Substituting
 mod Shrinking
+mod Removing

@@ -29,11 +29,3 @@ module _ {R : Type 0} (s t : State R) (ws vs : List ℕ) where
       go true d eb q = answers s ws n (length s.slots) (ap (λ x. x.after) q) (ap (λ x. x.scratch) q) (en ∙ ap (λ x. standing x.after) q ∙ eqb-true (standing s) (length s.slots) eb)
       go false true eb q = absurd (none_some (sym (ap (λ x. x.remap) q)))
       go false false eb q = answers (packed s) (noted s ws) n (standing s) (ap (λ x. x.after) q) (ap (λ x. x.scratch) q) (en ∙ ap (λ x. standing x.after) q ∙ tally_closed anyone s.slots)
-
-  pub shrunk_none : compacts None t vs ≡ compacting s ws → refuses vs t ≡ shrinking ws s
-  shrunk_none e = go (eqb (standing s) (length s.slots)) (ltb (length ws) (length s.slots)) e
-    where
-      go : (b d : Bool) → compacts None t vs ≡ cond b (compacts (Some Identity) s ws) (cond d (compacts None s ws) (compacts (Some Permuted) (packed s) (noted s ws))) → refuses vs t ≡ cond b (counts ws s (length s.slots)) (cond d (refuses ws s) (packing ws s))
-      go true d q = absurd (none_some (ap (λ x. x.remap) q))
-      go false true q = ap (refuses vs) (ap (λ x. x.after) q) ∙ ap (λ (xs : List ℕ). refuses xs s) (ap (λ x. x.scratch) q)
-      go false false q = absurd (none_some (ap (λ x. x.remap) q))

@@ -1,7 +1,5 @@
 -- What a call and its answer are shown as.
-use Rattle.std.specs.Prelude.{ℕ, List, ◌++◌, Ok, Err, codes, decimal, Result}
-use Rattle.model.specs.declared.Displaced.{Displaced}
-use Rattle.model.specs.declared.Displaced.TheVariants as displaced
+use Rattle.std.specs.Prelude.{ℕ, List, ◌++◌, Ok, Err, Some, None, codes, decimal, Option, Result}
 use Rattle.model.specs.declared.Duplicates.{Duplicates}
 use Rattle.model.specs.declared.Duplicates.TheVariants as duplicates
 use Rattle.model.specs.declared.MapRefusal.{MapRefusal}
@@ -17,10 +15,10 @@ call_text (Insert p) = codes "insert " ++ pair_text p
 call_text (Overwrite p) = codes "overwrite " ++ pair_text p
 
 -- a slot, and what was displaced
-abbrev pub placed_text : ℕ → Displaced Pair → List ℕ
-placed_text i displaced.Nothing = codes "slot " ++ decimal i
-placed_text i (displaced.One a) = codes "slot " ++ (decimal i ++ (codes ", displaced " ++ pair_text a))
-placed_text i (displaced.Two a b) = codes "slot " ++ (decimal i ++ (codes ", displaced " ++ (pair_text a ++ (codes ", " ++ pair_text b))))
+abbrev pub placed_text : ℕ → Option (Duplicates Pair) → List ℕ
+placed_text i None = codes "slot " ++ decimal i
+placed_text i (Some (duplicates.One a)) = codes "slot " ++ (decimal i ++ (codes ", displaced " ++ pair_text a))
+placed_text i (Some (duplicates.Two a b)) = codes "slot " ++ (decimal i ++ (codes ", displaced " ++ (pair_text a ++ (codes ", " ++ pair_text b))))
 
 abbrev pub sharing_text : Duplicates Pair → List ℕ
 sharing_text (duplicates.One a) = codes "refused 1, shares a key with " ++ pair_text a

@@ -8,6 +8,7 @@ use hash_table::index::HashedIndex;
 use hash_table::linear::LinearTable;
 use hashing::fnv::Fnv1a;
 use item_set::slot::ItemSlot;
+use map_tables::parts::{MapParts, Parts};
 use memory::Memory;
 use memory::lent::Lent;
 use std::io;
@@ -23,10 +24,12 @@ use text::Answer;
 
 type PairMap<'a> = BiHashMap<
     Pair,
-    Lent<'a, ItemSlot<Pair>>,
-    LinearTable<Lent<'a, HashedIndex>>,
-    LinearTable<Lent<'a, HashedIndex>>,
-    Fnv1a,
+    Parts<
+        Lent<'a, ItemSlot<Pair>>,
+        LinearTable<Lent<'a, HashedIndex>>,
+        LinearTable<Lent<'a, HashedIndex>>,
+        Fnv1a,
+    >,
 >;
 
 // Makes calls in order, with a line for each.
@@ -45,10 +48,12 @@ fn report(rt: &impl Print, run: &Run) -> io::Result<()> {
     let mut second = [HashedIndex::EMPTY; 2];
     let mut map: PairMap = BiHashMap::new(
         run.wanted,
-        Lent::new(&mut slots),
-        LinearTable::new(Lent::new(&mut first)),
-        LinearTable::new(Lent::new(&mut second)),
-        Fnv1a,
+        Parts {
+            memory: Lent::new(&mut slots),
+            first: LinearTable::new(Lent::new(&mut first)),
+            second: LinearTable::new(Lent::new(&mut second)),
+            state: Fnv1a,
+        },
     );
     let shows = run.shows;
     let capacity = map.capacity();

@@ -3,7 +3,7 @@ ghost use Rattle.cases.specs.Texts.{call_text, answer_text};
 ghost use Rattle.std.specs.Prelude.{Some};
 
 use crate::call::Call;
-use model::{Displaced, Duplicates, MapRefusal, Overwritten};
+use model::{Duplicates, MapRefusal, Overwritten};
 use std::fmt;
 use worked_cases::Pair;
 
@@ -30,9 +30,9 @@ impl fmt::Display for Answer {
             Ok(overwritten) => {
                 let slot = overwritten.slot;
                 match overwritten.displaced {
-                    Displaced::Nothing => write!(f, "slot {slot}"),
-                    Displaced::One(a) => write!(f, "slot {slot}, displaced {a}"),
-                    Displaced::Two(a, b) => write!(f, "slot {slot}, displaced {a}, {b}"),
+                    None => write!(f, "slot {slot}"),
+                    Some(Duplicates::One(a)) => write!(f, "slot {slot}, displaced {a}"),
+                    Some(Duplicates::Two(a, b)) => write!(f, "slot {slot}, displaced {a}, {b}"),
                 }
             }
             Err(MapRefusal::Duplicate(duplicate)) => match duplicate.duplicates {

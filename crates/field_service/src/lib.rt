@@ -2,16 +2,12 @@
 #![tactic(auto)]
 
 ghost use Rattle.std.specs.Prelude.{◌≡◌};
-ghost use Rattle.bi_hash_map.specs.Maps.{map_state, Sound};
 ghost use Rattle.field_service.specs.Read.{all_inserted, read};
 ghost use Rattle.item.specs.Kinds.{kind_of};
 
 use bi_hash_map::BiHashMap;
-use hash_table::HashTable;
-use hashing::WordHash;
 use item::BiHashItem;
-use item_set::slot::ItemSlot;
-use memory::Memory;
+use map_tables::parts::MapParts;
 use model::Found;
 
 // A record, and what its first key and its second key found.
@@ -23,12 +19,8 @@ pub struct ReadBack<T> {
 }
 
 // Takes records in, in order. One that is refused is passed over.
-pub fn insert_all<T: BiHashItem, M: Memory<ItemSlot<T>>, A: HashTable, B: HashTable, H: WordHash>(
-    map: &mut BiHashMap<T, M, A, B, H>,
-    rows: &[T],
-)
-    ensures sound { Sound T.BiHashItem T.K1.Key T.K2.Key M.Memory A.HashTable B.HashTable H.WordHash map.old → Sound T.BiHashItem T.K1.Key T.K2.Key M.Memory A.HashTable B.HashTable H.WordHash map.new }
-    ensures state { Sound T.BiHashItem T.K1.Key T.K2.Key M.Memory A.HashTable B.HashTable H.WordHash map.old → map_state M.Memory map.new ≡ all_inserted (kind_of T.BiHashItem T.K1.Key T.K2.Key) (map_state M.Memory map.old) rows.now }
+pub fn insert_all<T: BiHashItem, P: MapParts<T>>(map: &mut BiHashMap<T, P>, rows: &[T])
+    ensures { map.new ≡ all_inserted (kind_of T.BiHashItem T.K1.Key T.K2.Key) map.old rows.now }
 {
     for row in rows {
         let _ = map.insert(*row);
@@ -36,11 +28,8 @@ pub fn insert_all<T: BiHashItem, M: Memory<ItemSlot<T>>, A: HashTable, B: HashTa
 }
 
 // Looks a record up under both its keys.
-pub fn read_back<T: BiHashItem, M: Memory<ItemSlot<T>>, A: HashTable, B: HashTable, H: WordHash>(
-    map: &BiHashMap<T, M, A, B, H>,
-    item: &T,
-) -> ReadBack<T>
-    ensures { Sound T.BiHashItem T.K1.Key T.K2.Key M.Memory A.HashTable B.HashTable H.WordHash map.now → result ≡ read (kind_of T.BiHashItem T.K1.Key T.K2.Key) (map_state M.Memory map.now) item.now }
+pub fn read_back<T: BiHashItem, P: MapParts<T>>(map: &BiHashMap<T, P>, item: &T) -> ReadBack<T>
+    ensures { result ≡ read (kind_of T.BiHashItem T.K1.Key T.K2.Key) map.now item.now }
 {
     ReadBack {
         item: *item,

@@ -1,48 +1,93 @@
 -- The pairs of a memory's cells, after the memory's calls.
-use Rattle.std.proofs.Common.{◌≡◌, ℕ, ◌+◌, ◌<◌, Bool, true, false, cond, eqb, List, [], ◌∷◌, ◌++◌, length, get_or, take, set, Result, sym, refl, ap, ◌∙◌, subst, arith, MatchResult}
-use Rattle.std.proofs.lemmas.List.{length-map, get_or-map, map_push, map-set, take-map}
+use Rattle.std.proofs.Common.{◌≡◌, ℕ, suc, ◌+◌, ◌<◌, Bool, true, false, cond, eqb, List, [], ◌∷◌, map, length, get_or, take, set, Result, not, ◌&&◌, sym, refl, ap, ◌∙◌, subst, arith, Some, None, Option, MatchOption, MatchResult, ◌≤◌}
+use Rattle.std.proofs.lemmas.List.{length-map, get_or_default, get_or-map, map_push, map-set, take-map}
+use Rattle.std.proofs.lemmas.Bool.{eqb-true, ne_eqb, and_parts}
+use Rattle.std.proofs.lemmas.List.Folds.{list_all-map}
+use Rattle.std.proofs.lemmas.List.FromFn.{fill_by_all}
 use Rattle.std.proofs.lemmas.Result.{MatchResult-weaker}
+use Rattle.std.specs.List.{list_all, range_with_len, slice_get, filter}
+use Rattle.std.specs.Option.{option_map}
 use Rattle.memory.specs.declared.StorageRefusal.{StorageRefusal}
 use Rattle.memory.specs.Refusals.{code}
 use Rattle.memory.specs.Stored.{pushing}
 use Rattle.memory.proofs.Storing.{push_cases}
-use Rattle.base.specs.Counting.{times, Same}
+use Rattle.base.specs.Counting.{one, times, Same}
 use Rattle.base.proofs.Counts.{same_push, same_swap_out}
-use Rattle.hash_table.specs.Cells.{pair_of, pairs_of}
-use Rattle.hash_table.specs.Pairs.{adding, new_slot, moved}
+use Rattle.hash_table.specs.Cells.{pair_of, pairs_of, Stands, empty_cell, cell_at}
+use Rattle.hash_table.specs.Pairs.{slots_of, candidate, is_pair}
 use Rattle.hash_table.specs.declared.index.HashedIndex.{HashedIndex}
 
-pub length_pairs : (xs : List HashedIndex) → length (pairs_of xs) ≡ length xs
+length_pairs : (xs : List HashedIndex) → length (pairs_of xs) ≡ length xs
 length_pairs xs = length-map xs pair_of
 
 pub pair_same : (x : HashedIndex) (h s : ℕ) → x.hash ≡ h → x.slot ≡ s → pair_of x ≡ (h, s)
 pair_same x h s e f = cc
 
-pub pair_at : (xs : List HashedIndex) (i : ℕ) (x : HashedIndex) (d : ℕ × ℕ) → i < length xs → x ≡ get_or xs i x → get_or (pairs_of xs) i d ≡ pair_of x
+pair_at : (xs : List HashedIndex) (i : ℕ) (x : HashedIndex) (d : ℕ × ℕ) → i < length xs → x ≡ get_or xs i x → get_or (pairs_of xs) i d ≡ pair_of x
 pair_at xs i x d l e = get_or-map pair_of xs i x d l ∙ ap pair_of (sym e)
 
-pub pair_moved : (places : List ℕ) (x : HashedIndex) (s : ℕ) → s ≡ new_slot places x.slot → (x.hash, s) ≡ moved places (pair_of x)
-pair_moved places x s e = ap (λ t. (x.hash, t)) e
+none_counted : {X : Type 0} (q : X → Bool) (xs : List X) → list_all (λ x. not (q x)) xs ≡ eqb (times q xs) 0
+none_counted q [] = refl
+none_counted q (x ∷ xs) = by (q x) (none_counted q xs)
+  where
+    by : (b : Bool) → list_all (λ x. not (q x)) xs ≡ eqb (times q xs) 0 → (not b && list_all (λ x. not (q x)) xs) ≡ eqb (one b + times q xs) 0
+    by true r = sym (ne_eqb (1 + times q xs) 0 (λ e. omega arith))
+    by false r = r ∙ ap (λ n. eqb n 0) (omega arith)
 
-cond_first : {X : Type 0} (b : Bool) (m n : ℕ) (x y : X) → (cond {A = ℕ × X} b (m, x) (n, y)).0 ≡ cond b m n
-cond_first true m n x y = refl
-cond_first false m n x y = refl
+-- the cells that are read at the first n places, of a memory that has n
+cells_read : (xs : List HashedIndex) (n : ℕ) → n ≡ length xs → map (cell_at xs) (range_with_len 0 n) ≡ xs
+cells_read xs n e = sym (fill_by_all (cell_at xs) xs n empty_cell (sym e) (λ k l. refl))
+
+pub none_of_cells : (q : HashedIndex → Bool) (xs : List HashedIndex) (n : ℕ) → n ≡ length xs → list_all (λ i. not (q (cell_at xs i))) (range_with_len 0 n) ≡ eqb (times q xs) 0
+none_of_cells q xs n e =
+    sym (list_all-map (λ x. not (q x)) (cell_at xs) (range_with_len 0 n))
+    ∙ ap (list_all (λ x. not (q x))) (cells_read xs n e)
+    ∙ none_counted q xs
+
+-- the slots of a hash are those of the cells with it
+slots_of_cells : (h : ℕ) (xs : List HashedIndex) → map (λ x. x.slot) (filter (λ x. eqb x.hash h) xs) ≡ slots_of h (pairs_of xs)
+slots_of_cells h [] = refl
+slots_of_cells h (x ∷ xs) = by (eqb x.hash h) (slots_of_cells h xs)
+  where
+    by : (b : Bool) → map (λ x. x.slot) (filter (λ x. eqb x.hash h) xs) ≡ slots_of h (pairs_of xs)
+        → map (λ x. x.slot) (cond b (x ∷ filter (λ x. eqb x.hash h) xs) (filter (λ x. eqb x.hash h) xs)) ≡ cond b (x.slot ∷ slots_of h (pairs_of xs)) (slots_of h (pairs_of xs))
+    by true r = ap (λ l. x.slot ∷ l) r
+    by false r = r
+
+pub candidate_of_cells : (h k : ℕ) (xs : List HashedIndex) (n : ℕ) → n ≡ length xs
+    → slice_get (map (λ x. x.slot) (filter (λ x. eqb x.hash h) (map (cell_at xs) (range_with_len 0 n)))) k ≡ candidate (pairs_of xs) h k
+candidate_of_cells h k xs n e =
+    ap (λ l. slice_get (map (λ x. x.slot) (filter (λ x. eqb x.hash h) l)) k) (cells_read xs n e)
+    ∙ ap (λ l. slice_get l k) (slots_of_cells h xs)
+
+none_at : (h s : ℕ) (xs : List HashedIndex) → ((i : ℕ) → i < length xs → is_pair h s (pair_of (cell_at xs i)) ≡ false) → times (is_pair h s) (pairs_of xs) ≡ 0
+none_at h s [] e = refl
+none_at h s (x ∷ xs) e =
+    let r = none_at h s xs (λ i l. e (suc i) (omega arith)) in
+    let a = ap one (e 0 (omega arith)) in
+    omega arith
+
+-- the first place that has the pair, or none has it
+pub place_found : (h s : ℕ) (xs : List HashedIndex) (n : ℕ) (r : Option ℕ) → n ≡ length xs
+    → MatchOption r ((k : ℕ) → 0 ≤ k → k < n → is_pair h s (pair_of (cell_at xs k)) ≡ false) (λ i. (0 ≤ i) × (i < n) × (is_pair h s (pair_of (cell_at xs i)) ≡ true) × ((k : ℕ) → 0 ≤ k → k < i → is_pair h s (pair_of (cell_at xs k)) ≡ false))
+    → MatchOption r (times (is_pair h s) (pairs_of xs) ≡ 0) (Stands xs h s)
+place_found h s xs n None e none = none_at h s xs (λ i l. none i (omega arith) (omega arith))
+place_found h s xs n (Some i) e first =
+    let x = cell_at xs i in
+    let b = and_parts (eqb x.hash h) (eqb x.slot s) first.2 in (
+      omega (arith, first.1),
+      pair_at xs i x (0, 0) (omega (arith, first.1)) (get_or_default xs i empty_cell x (omega (arith, first.1))) ∙ pair_same x h s (eqb-true x.hash h b.0) (eqb-true x.slot s b.1),
+    )
 
 -- a cell is pushed
-module _ {U : Type 0} (r : Result U StorageRefusal) (room : ℕ) (xs ys : List HashedIndex) (x : HashedIndex) (e : ◌≡◌ {A = ℕ × List HashedIndex} (code r, ys) (pushing room xs x)) where
-  pub push_code : code r ≡ adding room (pairs_of xs)
-  push_code =
-      ap (λ p. p.0) e
-      ∙ cond_first (eqb (length xs) room) 8 0 xs (xs ++ x ∷ [])
-      ∙ sym (ap (λ n. cond (eqb n room) 8 0) (length_pairs xs))
-
-  pub push_pairs : MatchResult r (λ _. Same (pairs_of ys) (pair_of x ∷ pairs_of xs)) (λ _. pairs_of ys ≡ pairs_of xs)
-  push_pairs =
-      MatchResult-weaker
-      r
-      (push_cases r room xs ys x e)
-      (λ _ p q. ap (times q) (ap pairs_of p.1 ∙ map_push pair_of xs x) ∙ same_push (pairs_of xs) (pair_of x) q)
-      (λ _ p. ap pairs_of p.1)
+pub push_pairs : {U : Type 0} (r : Result U StorageRefusal) (room : ℕ) (xs ys : List HashedIndex) (x : HashedIndex) → ◌≡◌ {A = ℕ × List HashedIndex} (code r, ys) (pushing room xs x)
+    → MatchResult r (λ _. Same (pairs_of ys) (pair_of x ∷ pairs_of xs)) (λ _. pairs_of ys ≡ pairs_of xs)
+push_pairs r room xs ys x e =
+    MatchResult-weaker
+    r
+    (push_cases r room xs ys x e)
+    (λ _ p q. ap (times q) (ap pairs_of p.1 ∙ map_push pair_of xs x) ∙ same_push (pairs_of xs) (pair_of x) q)
+    (λ _ p. ap pairs_of p.1)
 
 -- the last cell goes to the place of the pair p, and the memory ends one earlier
 pub swap_out_pairs : (xs ys zs : List HashedIndex) (i m : ℕ) (last : HashedIndex) (p : ℕ × ℕ) → i < length xs → length xs ≡ m + 1
@@ -59,3 +104,7 @@ swap_out_pairs xs ys zs i m last p l n at_i is_last put cut =
     (λ qs. Same ps qs)
     (ap (λ z. z ∷ take m (set ps i (get_or ps m (0, 0)))) at_i ∙ ap (λ qs. p ∷ qs) (sym left))
     (same_swap_out ps i m (0, 0) (omega arith) (length_pairs xs ∙ n))
+
+pub nth_told : {X : Type 0} (r : Option X) {s : Option X} → option_map (λ x. x) r ≡ s → r ≡ s
+nth_told None e = e
+nth_told (Some x) e = e

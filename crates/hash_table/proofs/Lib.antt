@@ -1,3 +1,3 @@
 pub mod Answering
 pub mod Celled
-pub mod Walking
+pub mod Moving

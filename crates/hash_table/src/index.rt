@@ -1,4 +1,6 @@
 // The element of a table's memory.
+ghost use Rattle.std.specs.Prelude.{◌≡◌};
+ghost use Rattle.hash_table.specs.Cells.{held};
 
 // What a cell is used for. A table that needs no marks has all its cells occupied.
 #[derive(Clone, Copy, PartialEq, Eq, Debug)]
@@ -23,4 +25,11 @@ impl HashedIndex {
         slot: 0,
         mark: Mark::Empty,
     };
+
+    // Whether the cell holds a pair.
+    pub fn is_held(self) -> bool
+        ensures { result ≡ held self }
+    {
+        self.mark == Mark::Occupied
+    }
 }

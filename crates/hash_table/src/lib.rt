@@ -12,48 +12,41 @@ pub mod cells;
 pub mod index;
 pub mod linear;
 
-// A table by the list of its pairs, in an order of its own, and a capacity. `ok` is what a table's own layout needs
-// in order to be of use: every maker gives it, every call keeps it, and emptying gives it from any state.
-// Questions and refusals change nothing, and a capacity stays.
+// A table by the list of its pairs, in an order of its own, and a capacity. Questions and refusals change nothing, and a
+// capacity stays.
 pub trait HashTable {
     ghost pairs: { Self → List (ℕ × ℕ) };
 
     ghost room: { Self → ℕ };
 
-    ghost ok: { Self → Type 0 };
-
     fn len(&self) -> usize
-        ensures count { ok self.now → result ≡ length (pairs self.now) }
-        ensures bounded { ok self.now → length (pairs self.now) ≤ room self.now };
+        ensures count { result ≡ length (pairs self.now) }
+        ensures bounded { length (pairs self.now) ≤ room self.now };
 
     fn capacity(&self) -> usize
         ensures { result ≡ room self.now };
 
     // The slot of pair k, from 0, among those with the hash.
     fn candidate(&self, hash: u64, k: usize) -> Option<u32>
-        ensures { ok self.now → result ≡ candidate (pairs self.now) hash k };
+        ensures { result ≡ candidate (pairs self.now) hash k };
 
     fn add(&mut self, hash: u64, slot: u32) -> Result<(), StorageRefusal>
         ensures room { room self.new ≡ room self.old }
-        ensures ok { ok self.old → ok self.new }
-        ensures code { ok self.old → code result ≡ adding (room self.old) (pairs self.old) }
-        ensures pairs { ok self.old → MatchResult result (λ _. Same (pairs self.new) ((hash, slot) ∷ pairs self.old)) (λ _. pairs self.new ≡ pairs self.old) };
+        ensures code { code result ≡ adding (room self.old) (pairs self.old) }
+        ensures pairs { MatchResult result (λ _. Same (pairs self.new) ((hash, slot) ∷ pairs self.old)) (λ _. pairs self.new ≡ pairs self.old) };
 
     // Takes one such pair out.
     fn remove(&mut self, hash: u64, slot: u32) -> Result<(), StorageRefusal>
         ensures room { room self.new ≡ room self.old }
-        ensures ok { ok self.old → ok self.new }
-        ensures code { ok self.old → code result ≡ removing (pairs self.old) hash slot }
-        ensures pairs { ok self.old → MatchResult result (λ _. Same (pairs self.old) ((hash, slot) ∷ pairs self.new)) (λ _. pairs self.new ≡ pairs self.old) };
+        ensures code { code result ≡ removing (pairs self.old) hash slot }
+        ensures pairs { MatchResult result (λ _. Same (pairs self.old) ((hash, slot) ∷ pairs self.new)) (λ _. pairs self.new ≡ pairs self.old) };
 
     fn clear(&mut self)
         ensures room { room self.new ≡ room self.old }
-        ensures ok { ok self.new }
         ensures pairs { pairs self.new ≡ [] };
 
     // Turns each slot s into place s of the list.
     fn remap(&mut self, places: &[u32]) -> Result<(), StorageRefusal>
         ensures room { room self.new ≡ room self.old }
-        ensures ok { ok self.old → ok self.new }
-        ensures step { ok self.old → (code result, pairs self.new) ≡ remapping places.now (pairs self.old) };
+        ensures step { (code result, pairs self.new) ≡ remapping places.now (pairs self.old) };
 }

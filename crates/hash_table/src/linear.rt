@@ -1,64 +1,67 @@
 // The table that looks through all its pairs.
-ghost use Rattle.std.specs.Prelude.{◌≡◌, [], MatchOption, ◌==◌};
+ghost use Rattle.std.specs.Prelude.{◌≡◌, [], MatchOption};
 ghost use Rattle.base.specs.Counting.{times};
 ghost use Rattle.hash_table.specs.Cells.{pairs_of, Stands};
-ghost use Rattle.hash_table.specs.Pairs.{is_pair, homeless};
+ghost use Rattle.hash_table.specs.Pairs.{is_pair, candidate as candidate_of};
 
 use crate::HashTable;
-use crate::cells::{at, new_place, put};
+use crate::cells::{at, put, remap_cells};
 use crate::index::{HashedIndex, Mark};
-use base::SENTINEL;
 use memory::{Memory, StorageRefusal};
+use std::marker::Model;
 
 // Its capacity is its memory's.
 #[derive(Drop)]
-pub struct LinearTable<M> {
+pub struct LinearTable<M: Memory<HashedIndex>> {
     memory: M,
+}
+
+impl<M: Memory<HashedIndex>> Model for LinearTable<M> {
+    ghost use Rattle.hash_table.specs.Tables.{Table};
+    ghost use Rattle.hash_table.specs.Cells.{pairs_of, AllHeld};
+
+    ghost Value = { Table };
+
+    ghost view = { λ t. record { pairs = pairs_of (M.Memory.items t.memory); room = M.Memory.room t.memory } };
+
+    ghost invariant = { λ t. AllHeld (M.Memory.items t.memory) };
 }
 
 impl<M: Memory<HashedIndex>> LinearTable<M> {
     // A table with no pair: what the memory held goes.
     pub fn new(mut memory: M) -> LinearTable<M>
-        ensures pairs { pairs_of (M.Memory.items result.memory) ≡ [] }
-        ensures room { M.Memory.room result.memory ≡ M.Memory.room memory }
+        ensures { result ≡ record { pairs = []; room = M.Memory.room memory } }
     {
         memory.truncate(0);
         LinearTable { memory }
     }
+}
 
-    // A place of the pair.
-    fn place_of(&self, hash: u64, slot: u32) -> Option<usize>
-        ensures { MatchOption result (times (is_pair hash slot) (pairs_of (M.Memory.items self.now.memory)) ≡ 0) (Stands (M.Memory.items self.now.memory) hash slot) }
-    {
-        for i in 0..self.memory.len() {
-            let cell = at(&self.memory, i);
-            if cell.hash == hash && cell.slot == slot {
-                return Some(i);
-            }
-        }
-        None
-    }
+// A place of the pair.
+fn place_of<M: Memory<HashedIndex>>(memory: &M, hash: u64, slot: u32) -> Option<usize>
+    ensures { MatchOption result (times (is_pair hash slot) (pairs_of (M.Memory.items memory.now)) ≡ 0) (Stands (M.Memory.items memory.now) hash slot) }
+{
+    (0..memory.len()).find(|&i| {
+        let cell = at(memory, i);
+        cell.hash == hash && cell.slot == slot
+    })
+}
 
-    // Whether each slot has a new place.
-    fn all_placed(&self, places: &[u32]) -> bool
-        ensures { result ≡ (times (homeless places.now) (pairs_of (M.Memory.items self.now.memory)) == 0) }
-    {
-        for i in 0..self.memory.len() {
-            let cell = at(&self.memory, i);
-            if new_place(places, cell.slot) == SENTINEL {
-                return false;
-            }
-        }
-        true
-    }
+// The slot of pair k, from 0, among those with the hash.
+fn candidate_in<M: Memory<HashedIndex>>(memory: &M, hash: u64, k: usize) -> Option<u32>
+    ensures { result ≡ candidate_of (pairs_of (M.Memory.items memory.now)) hash k }
+{
+    (0..memory.len())
+        .map(|i| at(memory, i))
+        .filter(|cell| cell.hash == hash)
+        .map(|cell| cell.slot)
+        .nth(k)
 }
 
 impl<M: Memory<HashedIndex>> HashTable for LinearTable<M> {
-    ghost pairs = { λ t. pairs_of (M.Memory.items t.memory) };
+    ghost pairs = { λ t. t.pairs };
 
-    ghost room = { λ t. M.Memory.room t.memory };
-
-    ghost ok = { λ _. Unit {0} };
+    ghost room = { λ t. t.room };
 
     fn len(&self) -> usize {
         self.memory.len()
@@ -69,17 +72,7 @@ impl<M: Memory<HashedIndex>> HashTable for LinearTable<M> {
     }
 
     fn candidate(&self, hash: u64, k: usize) -> Option<u32> {
-        let mut seen = 0;
-        for i in 0..self.memory.len() {
-            let cell = at(&self.memory, i);
-            if cell.hash == hash {
-                if seen == k {
-                    return Some(cell.slot);
-                }
-                seen += 1;
-            }
-        }
-        None
+        candidate_in(&self.memory, hash, k)
     }
 
     fn add(&mut self, hash: u64, slot: u32) -> Result<(), StorageRefusal> {
@@ -92,9 +85,7 @@ impl<M: Memory<HashedIndex>> HashTable for LinearTable<M> {
 
     // The last pair goes where the one taken out was.
     fn remove(&mut self, hash: u64, slot: u32) -> Result<(), StorageRefusal> {
-        let Some(place) = self.place_of(hash, slot) else {
-            return Err(StorageRefusal::NoSuchPair);
-        };
+        let place = place_of(&self.memory, hash, slot).ok_or(StorageRefusal::NoSuchPair)?;
         let last = self.memory.len() - 1;
         let cell = at(&self.memory, last);
         put(&mut self.memory, place, cell);
@@ -106,16 +97,7 @@ impl<M: Memory<HashedIndex>> HashTable for LinearTable<M> {
         self.memory.truncate(0);
     }
 
-    // All slots are tested before one is changed, so that a refusal changes nothing.
     fn remap(&mut self, places: &[u32]) -> Result<(), StorageRefusal> {
-        if !self.all_placed(places) {
-            return Err(StorageRefusal::NoNewPlace);
-        }
-        for i in 0..self.memory.len() {
-            let cell = at(&self.memory, i);
-            let slot = new_place(places, cell.slot);
-            put(&mut self.memory, i, HashedIndex { slot, ..cell });
-        }
-        Ok(())
+        remap_cells(&mut self.memory, places)
     }
 }

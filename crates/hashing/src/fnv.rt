@@ -16,13 +16,10 @@ fn mix(hash: u64, byte: u8) -> u64
 }
 
 // More bytes.
-fn mix_all(mut hash: u64, bytes: &[u8]) -> u64
+fn mix_all(hash: u64, bytes: &[u8]) -> u64
     ensures { result ≡ fold mixed hash bytes.now }
 {
-    for byte in bytes {
-        hash = mix(hash, *byte);
-    }
-    hash
+    bytes.iter().fold(hash, |hash, byte| mix(hash, *byte))
 }
 
 // The hash of a text of bytes.

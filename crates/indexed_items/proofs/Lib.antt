@@ -1,1 +1,5 @@
 mod Keeping
+mod Committing
+mod Overwriting
+mod Substituting
+mod Answering

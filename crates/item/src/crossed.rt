@@ -1,7 +1,7 @@
 // The same record with its two keys exchanged, so that what is said of one key can be asked of the other.
 use crate::BiHashItem;
 
-#[derive(Clone, Copy)]
+#[derive(Clone, Copy, PartialEq, Eq)]
 pub struct Crossed<T> {
     pub inner: T,
 }
@@ -14,6 +14,10 @@ impl<T: BiHashItem> BiHashItem for Crossed<T> {
     ghost first = { λ item. T.BiHashItem.second item.inner };
 
     ghost second = { λ item. T.BiHashItem.first item.inner };
+
+    ghost equality1 = { T.BiHashItem.equality2 };
+
+    ghost equality2 = { T.BiHashItem.equality1 };
 
     fn key1(&self) -> T::K2 {
         self.inner.key2()

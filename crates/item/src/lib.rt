@@ -17,9 +17,6 @@ pub trait Key: Copy {
 
     ghost words: { Self → Hashed };
 
-    fn equals(&self, other: &Self) -> bool
-        ensures { result ≡ same self.now other.now };
-
     fn words(&self) -> Words
         ensures { result ≡ words self.now };
 
@@ -32,11 +29,11 @@ pub trait Key: Copy {
     ghost alike: { (a b : Self) → same a b ≡ true → words a ≡ words b };
 }
 
-// A kind of record, with its own two kinds of key.
+// A kind of record, with its own two kinds of key. Keys are compared by `==`, which holds exactly where the keys are equal.
 pub trait BiHashItem: Copy {
-    type K1: Key;
+    type K1: Key + Eq;
 
-    type K2: Key;
+    type K2: Key + Eq;
 
     ghost first: { Self → Self.K1 };
 
@@ -47,4 +44,8 @@ pub trait BiHashItem: Copy {
 
     fn key2(&self) -> Self::K2
         ensures { result ≡ second self.now };
+
+    ghost equality1: { (a b : Self.K1) → Self.K1.eq a b ≡ Self.K1.same a b };
+
+    ghost equality2: { (a b : Self.K2) → Self.K2.eq a b ≡ Self.K2.same a b };
 }

@@ -1,5 +1,5 @@
 -- What the answer of a set tells of its state.
-use Rattle.std.proofs.Common.{◌≡◌, ℕ, ◌<◌, ◌≤◌, ◌⊎◌, Some, None, Option, sym, ap, ◌∙◌, inl, inr}
+use Rattle.std.proofs.Common.{◌≡◌, ℕ, ◌<◌, ◌≤◌, ◌⊎◌, Some, Option, sym, ap, ◌∙◌, inl, inr}
 use Rattle.std.proofs.lemmas.Bool.{cases_lt, le-leb, lt-leb}
 use Rattle.base.proofs.Options.{none_some, some_same}
 use Rattle.item_set.specs.Slots.{at, held}
@@ -13,14 +13,6 @@ module _ {R : Type 0} where
       go : (standing s < s.capacity) ⊎ (s.capacity ≤ standing s) → (standing s < s.capacity) × (n ≡ takes s) × (t ≡ taken s v)
       go (inl l) = let q = rw (lt-leb s.capacity (standing s) l) at e in (l, some_same (ap (λ p. p.0) q), ap (λ p. p.1) q)
       go (inr l) = let q = rw (le-leb s.capacity (standing s) l) at e in absurd (none_some (sym (ap (λ p. p.0) q)))
-
-  -- none was: there was no room, and nothing was done
-  pub growing_none : (s t : State R) (v : R) → ◌≡◌ {A = Option ℕ × State R} (None, t) (growing s v) → (s.capacity ≤ standing s) × (t ≡ s)
-  growing_none s t v e = go (cases_lt (standing s) s.capacity)
-    where
-      go : (standing s < s.capacity) ⊎ (s.capacity ≤ standing s) → (s.capacity ≤ standing s) × (t ≡ s)
-      go (inl l) = let q = rw (lt-leb s.capacity (standing s) l) at e in absurd (none_some (ap (λ p. p.0) q))
-      go (inr l) = let q = rw (le-leb s.capacity (standing s) l) at e in (l, ap (λ p. p.1) q)
 
   -- a record was taken out
   pub removing_held : (s t : State R) (i : ℕ) (x : R) (o : Option R) → held (at s.slots i) ≡ Some x → ◌≡◌ {A = Option R × State R} (o, t) (removing s i) → (o ≡ Some x) × (t ≡ freed s i)

@@ -1,6 +1,6 @@
 -- The free chain, as slots are freed and taken.
-use Rattle.std.proofs.Common.{◌≡◌, ℕ, suc, ◌+◌, ◌<◌, ◌≤◌, Bool, true, false, cond, eqb, List, [], ◌∷◌, ◌++◌, length, set, refl, ap, arith}
-use Rattle.std.proofs.lemmas.List.{length-set, length_push, get_or-set_same, get_or-set_other, get_or_append_left}
+use Rattle.std.proofs.Common.{◌≡◌, ℕ, suc, ◌+◌, ◌<◌, ◌≤◌, Bool, true, false, cond, eqb, List, [], ◌∷◌, length, set, refl, ap, arith}
+use Rattle.std.proofs.lemmas.List.{length-set, length_push, get_or-set_same, get_or-set_other}
 use Rattle.std.proofs.lemmas.Bool.{eq-eqb, ne_eqb}
 use Rattle.base.specs.Counting.{sentinel, one}
 use Rattle.item_set.specs.declared.slot.ItemSlot.{ItemSlot}
@@ -16,12 +16,6 @@ module _ {R : Type 0} where
   chain_set xs j y h (i ∷ is) a c =
       let e : at (set xs j y) i ≡ at xs i = get_or-set_other xs j i y (Vacant sentinel) a.0 in
       (c.0, simp length-set c.1, rw e c.2, c.3, rw e (chain_set xs j y (next (at xs i)) is a.1 c.4))
-
-  pub chain_push : (xs : List (ItemSlot R)) (y : ItemSlot R) (h : ℕ) (is : List ℕ) → Chain xs h is → Chain (xs ++ y ∷ []) h is
-  chain_push xs y h [] c = c
-  chain_push xs y h (i ∷ is) c =
-      let e : at (xs ++ y ∷ []) i ≡ at xs i = get_or_append_left xs (y ∷ []) (Vacant sentinel) i c.1 in
-      (c.0, simp length_push (omega arith), rw e c.2, c.3, rw e (chain_push xs y (next (at xs i)) is c.4))
 
   -- a standing record's slot is not on the chain
   pub chain_avoids : (xs : List (ItemSlot R)) (j : ℕ) (r : R) (h : ℕ) (is : List ℕ) → at xs j ≡ Occupied r → Chain xs h is → Avoids j is
@@ -46,7 +40,6 @@ module _ {R : Type 0} where
   pub record Takes (b c : State R) (r : R) : Type 0 where
     pub linked : Linked c
     pub counts : (q : R → Bool) → tally q c.slots ≡ one (q r) + tally q b.slots
-    pub grows : length c.slots ≤ length b.slots + 1
     pub keeps : length b.slots ≤ length c.slots
     pub at_end : standing b ≡ length b.slots → length c.slots ≡ length b.slots + 1
     pub inside : standing b < length b.slots → length c.slots ≡ length b.slots
@@ -62,7 +55,6 @@ module _ {R : Type 0} where
       small = s.small;
     };
     counts = λ q. omega (arith, tally_push q b.slots (Occupied r));
-    grows = simp length_push (omega arith);
     keeps = simp length_push (omega arith);
     at_end = λ _. length_push b.slots (Occupied r);
     inside = λ l. simp length_push (omega arith);
@@ -85,7 +77,6 @@ module _ {R : Type 0} where
           small = s.small;
         };
         counts = λ q. omega (arith, z q, tally_set q b.slots b.head (Occupied r) l);
-        grows = simp length-set (omega arith);
         keeps = simp length-set (omega arith);
         at_end = λ e. simp length-set (omega arith);
         inside = λ e. length-set b.slots b.head (Occupied r);

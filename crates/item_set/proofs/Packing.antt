@@ -2,14 +2,14 @@
 use Rattle.std.proofs.Common.{◌≡◌, ℕ, suc, ◌+◌, ◌<◌, ◌≤◌, Bool, true, false, cond, eqb, ltb, List, [], ◌∷◌, ◌++◌, length, get_or, take, drop, set, Some, None, sym, refl, ap, ◌∙◌, subst, append_assoc, add-zero, add-one, arith, drop-cons, take-suc, drop-set-lt}
 use lib.Seq.{take-set-le, set-append_seam, take-length}
 use Rattle.std.proofs.lemmas.List.{length-set, length-take-le, length_push, get_or-set_same, append-nil}
-use Rattle.std.proofs.lemmas.Bool.{ne_eqb, le-ltb, false≢true}
+use Rattle.std.proofs.lemmas.Bool.{false≢true}
 use Rattle.base.specs.Counting.{sentinel, one}
 use Rattle.base.proofs.Options.{none_some}
 use Rattle.memory.specs.declared.Memory as memory
 use Rattle.item_set.specs.declared.slot.ItemSlot.{ItemSlot}
 use Rattle.item_set.specs.declared.slot.ItemSlot.TheVariants.{Occupied, Vacant}
 use Rattle.item_set.specs.declared.remap.IndexRemap.TheVariants.{Identity, Permuted}
-use Rattle.item_set.specs.declared.set.ItemSet.{ItemSet}
+use Rattle.item_set.specs.declared.set.ItemSet.TheInside.{Inside}
 use Rattle.item_set.specs.Chains.{Linked}
 use Rattle.item_set.specs.Compacting.{compacts, noted, compacting}
 use Rattle.item_set.specs.Sets.{meaning, Ready}
@@ -59,9 +59,6 @@ module _ {R : Type 0} where
     pub long : length ys ≡ length xs
     pub notes : vs ≡ moves 0 (take n xs) ++ drop n ws
     pub free : w ≡ length (closed (take n xs))
-
-  pub packing_none : (xs : List (ItemSlot R)) (ws : List ℕ) → Packing xs ws 0 xs ws 0
-  packing_none xs ws = record { front = refl; rest = refl; long = refl; notes = refl; free = refl }
 
   module _ (xs : List (ItemSlot R)) (ws : List ℕ) (n : ℕ) (ys : List (ItemSlot R)) (vs : List ℕ) (w : ℕ) (p : Packing xs ws n ys vs w) (l : n < length xs) (h : length xs ≤ length ws) where
     one_more : take (n + 1) xs ≡ take n xs ++ at xs n ∷ []
@@ -162,19 +159,15 @@ module _ {R : Type 0} where
   }
 
 module _ {T M : Type 0} (m : memory.Ghosts M (ItemSlot T)) where
-  pub ready_packed : (s t : ItemSet T M) → Ready m s → meaning m t ≡ packed (meaning m s) → t.len ≡ s.len → m.room t.items ≡ m.room s.items → Ready m t
-  ready_packed s t w q en er =
-      let c : t.capacity ≡ s.capacity = ap (λ x. x.capacity) q in
+  pub ready_packed : (s t : Inside T M) → Ready m s → m.items t.items ≡ closed (m.items s.items) → t.free_head ≡ sentinel → t.capacity ≡ s.capacity → t.len ≡ s.len → m.room t.items ≡ m.room s.items → Ready m t
+  ready_packed s t w ei eh ec en er =
+      let q : meaning m t ≡ packed (meaning m s) = rw (ei, eh, ec) refl in
       let n = ap standing q in
       record {
         linked = subst Linked (sym q) (linked_packed (meaning m s) w.linked);
         counted = omega (arith, w.counted, tally_closed anyone (m.items s.items));
         room = omega (arith, w.room);
       }
-
--- where a slot is vacant and the scratch is long enough, compacting packs
-pub compacting_packs : {R : Type 0} (s : State R) (ws : List ℕ) → (standing s ≡ length s.slots → ⊥) → length s.slots ≤ length ws → compacting s ws ≡ compacts (Some Permuted) (packed s) (noted s ws)
-compacting_packs s ws n l = rw (ne_eqb (standing s) (length s.slots) n, le-ltb (length ws) (length s.slots) l) refl
 
 -- what a compaction answered, read back
 pub compacting_permuted : {R : Type 0} (s t : State R) (ws vs : List ℕ) → compacts (Some Permuted) t vs ≡ compacting s ws → (t ≡ packed s) × (vs ≡ noted s ws)

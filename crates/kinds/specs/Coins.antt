@@ -1,5 +1,5 @@
 -- The two keys of a coin: which they are, and when two are equal; and the coins of one currency.
-use Rattle.std.specs.Prelude.{Bool, ◌&&◌, eqb}
+use Rattle.std.specs.Prelude.{Bool, ◌&&◌, ◌==◌}
 use Rattle.kinds.specs.declared.coin.Signature.{Signature}
 use Rattle.kinds.specs.declared.coin.Channel.{Channel}
 use Rattle.kinds.specs.declared.coin.Coin.{Coin}
@@ -7,10 +7,10 @@ use Rattle.kinds.specs.declared.coin.OfCurrency.{OfCurrency}
 
 -- each part is the same
 abbrev pub same_signature : Signature → Signature → Bool
-same_signature a b = eqb a.currency b.currency && (eqb a.value b.value && eqb a.issue b.issue)
+same_signature a b = a.currency == b.currency && (a.value == b.value && a.issue == b.issue)
 
 abbrev pub same_channel : Channel → Channel → Bool
-same_channel a b = eqb a.number b.number
+same_channel a b = a.number == b.number
 
 -- a coin's currency, value and issue as a key
 abbrev pub signature_of : Coin → Signature
@@ -22,4 +22,4 @@ channel_of coin = record { number = coin.channel }
 
 -- a coin has the wanted currency
 abbrev pub of_currency : OfCurrency → Coin → Bool
-of_currency wanted coin = eqb coin.currency wanted.number
+of_currency wanted coin = coin.currency == wanted.number

@@ -10,7 +10,7 @@ use item::predicate::Predicate;
 use item::{BiHashItem, Key};
 
 // What a coin is: the number of its currency, its value and its issue. Any numbers make a key.
-#[derive(Clone, Copy)]
+#[derive(Clone, Copy, PartialEq, Eq)]
 pub struct Signature {
     pub currency: u16,
     pub value: u32,
@@ -30,10 +30,6 @@ impl Key for Signature {
 
     ghost alike = { Prim.search rules };
 
-    fn equals(&self, other: &Signature) -> bool {
-        self.currency == other.currency && self.value == other.value && self.issue == other.issue
-    }
-
     // A word for each part, so that different signatures give different words.
     fn words(&self) -> Words {
         Words::Three(
@@ -45,7 +41,7 @@ impl Key for Signature {
 }
 
 // The number of the channel that takes a coin.
-#[derive(Clone, Copy)]
+#[derive(Clone, Copy, PartialEq, Eq)]
 pub struct Channel {
     pub number: u16,
 }
@@ -63,17 +59,13 @@ impl Key for Channel {
 
     ghost alike = { Prim.search rules };
 
-    fn equals(&self, other: &Channel) -> bool {
-        self.number == other.number
-    }
-
     fn words(&self) -> Words {
         Words::One(u64::from(self.number))
     }
 }
 
 // The bag size is the count of these coins in a full bag.
-#[derive(Clone, Copy)]
+#[derive(Clone, Copy, PartialEq, Eq)]
 pub struct Coin {
     pub currency: u16,
     pub value: u32,
@@ -90,6 +82,10 @@ impl BiHashItem for Coin {
     ghost first = { signature_of };
 
     ghost second = { channel_of };
+
+    ghost equality1 = { Prim.search rules };
+
+    ghost equality2 = { Prim.search rules };
 
     fn key1(&self) -> Signature {
         Signature {
@@ -109,13 +105,9 @@ impl BiHashItem for Coin {
 impl Comparable for Coin {
     ghost alike = { alike_coins };
 
-    fn is_alike(&self, other: &Coin) -> bool {
-        self.currency == other.currency
-            && self.value == other.value
-            && self.issue == other.issue
-            && self.channel == other.channel
-            && self.bag_size == other.bag_size
-    }
+    ghost equality = { Prim.search rules };
+
+    ghost keys = { Prim.search rules };
 }
 
 // Keeps the coins of one currency, by its number.

@@ -10,7 +10,7 @@ use item::comparable::Comparable;
 use item::{BiHashItem, Key};
 
 // The three letters of a currency's code, each as a byte. Any bytes make a key.
-#[derive(Clone, Copy)]
+#[derive(Clone, Copy, PartialEq, Eq)]
 pub struct Letters {
     pub bytes: [u8; 3],
 }
@@ -28,12 +28,6 @@ impl Key for Letters {
 
     ghost alike = { Prim.search rules };
 
-    fn equals(&self, other: &Letters) -> bool {
-        let [a, b, c] = self.bytes;
-        let [x, y, z] = other.bytes;
-        a == x && b == y && c == z
-    }
-
     // The letters fit one word side by side, so that different letters give different words.
     fn words(&self) -> Words {
         let [a, b, c] = self.bytes;
@@ -42,7 +36,7 @@ impl Key for Letters {
 }
 
 // The number of a currency.
-#[derive(Clone, Copy)]
+#[derive(Clone, Copy, PartialEq, Eq)]
 pub struct Number {
     pub value: u16,
 }
@@ -60,17 +54,13 @@ impl Key for Number {
 
     ghost alike = { Prim.search rules };
 
-    fn equals(&self, other: &Number) -> bool {
-        self.value == other.value
-    }
-
     fn words(&self) -> Words {
         Words::One(u64::from(self.value))
     }
 }
 
 // The minor unit is the count of decimal places of an amount.
-#[derive(Clone, Copy)]
+#[derive(Clone, Copy, PartialEq, Eq)]
 pub struct Currency {
     pub letters: Letters,
     pub number: u16,
@@ -86,6 +76,10 @@ impl BiHashItem for Currency {
 
     ghost second = { number_of };
 
+    ghost equality1 = { Prim.search rules };
+
+    ghost equality2 = { Prim.search rules };
+
     fn key1(&self) -> Letters {
         self.letters
     }
@@ -98,9 +92,7 @@ impl BiHashItem for Currency {
 impl Comparable for Currency {
     ghost alike = { alike_currencies };
 
-    fn is_alike(&self, other: &Currency) -> bool {
-        self.number == other.number
-            && self.minor_unit == other.minor_unit
-            && self.letters.equals(&other.letters)
-    }
+    ghost equality = { Prim.search rules };
+
+    ghost keys = { Prim.search rules };
 }

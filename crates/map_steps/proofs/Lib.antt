@@ -1,3 +1,2 @@
-pub mod Committing
-pub mod Overwriting
 mod Meeting
+mod Narrowing

@@ -1,43 +1,26 @@
 // Whether two sets of records are equal.
 ghost use Rattle.std.specs.Prelude.{◌≡◌};
-ghost use Rattle.indexed_items.specs.Items.{items_state, Sound};
 ghost use Rattle.item.specs.Kinds.{kind_of};
 ghost use Rattle.model.specs.Model.{meets, equal};
 
 use crate::lookup::find_unique;
-use hash_table::HashTable;
-use hashing::WordHash;
 use indexed_items::IndexedItems;
 use item::comparable::Comparable;
-use item_set::slot::ItemSlot;
-use memory::Memory;
+use map_tables::parts::MapParts;
 
 // Whether a record meets one like it, in one slot under both keys.
-fn has_like<T: Comparable, M: Memory<ItemSlot<T>>, A: HashTable, B: HashTable, H: WordHash>(
-    items: &IndexedItems<T, M, A, B, H>,
-    item: &T,
-) -> bool
-    ensures { Sound T.BiHashItem T.K1.Key T.K2.Key M.Memory A.HashTable B.HashTable H.WordHash items.now → result ≡ meets (kind_of T.BiHashItem T.K1.Key T.K2.Key) T.Comparable.alike (items_state M.Memory items.now) item.now }
+fn has_like<T: Comparable, P: MapParts<T>>(items: &IndexedItems<T, P>, item: &T) -> bool
+    ensures { result ≡ meets (kind_of T.BiHashItem T.K1.Key T.K2.Key) T.Comparable.alike items.now.records item.now }
 {
-    match find_unique(items, &item.key1(), &item.key2()) {
-        Some(found) => item.is_alike(&found.item),
-        None => false,
-    }
+    find_unique(items, &item.key1(), &item.key2()).is_some_and(|found| *item == found.item)
 }
 
 // Whether as many records stand in the second, and each of the first meets one like it there. The parts may differ.
-pub fn equal<
-    T: Comparable,
-    M: Memory<ItemSlot<T>>,
-    A: HashTable,
-    B: HashTable,
-    H: WordHash,
-    N: Memory<ItemSlot<T>>,
-    C: HashTable,
-    D: HashTable,
-    G: WordHash,
->(first: &IndexedItems<T, M, A, B, H>, second: &IndexedItems<T, N, C, D, G>) -> bool
-    ensures { Sound T.BiHashItem T.K1.Key T.K2.Key M.Memory A.HashTable B.HashTable H.WordHash first.now → Sound T.BiHashItem T.K1.Key T.K2.Key N.Memory C.HashTable D.HashTable G.WordHash second.now → result ≡ equal (kind_of T.BiHashItem T.K1.Key T.K2.Key) T.Comparable.alike (items_state M.Memory first.now) (items_state N.Memory second.now) }
+pub fn equal<T: Comparable, P: MapParts<T>, O: MapParts<T>>(
+    first: &IndexedItems<T, P>,
+    second: &IndexedItems<T, O>,
+) -> bool
+    ensures { result ≡ equal (kind_of T.BiHashItem T.K1.Key T.K2.Key) T.Comparable.alike first.now.records second.now.records }
 {
     if first.len() != second.len() {
         return false;

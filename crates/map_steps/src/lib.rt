@@ -1,7 +1,6 @@
-// The steps of which the calls of a map are made, over records in slots with two tables.
+// Steps of the calls of a map that read records in slots by both keys, or go through all slots.
 #![tactic(auto)]
 
 pub mod equality;
 pub mod lookup;
-pub mod overwrite;
 pub mod removal;

@@ -70,9 +70,8 @@ module _ {R : Type 0} (hash : R → ℕ) where
 
 -- the table of a map, as a record comes in
 module _ {R A : Type 0} (a : table.Ghosts A) (hash : R → ℕ) where
-  pub indexed_taken : (s : State R) (t t' : A) (v : R) (h slot : ℕ) → Linked s → Indexed a hash s t → h ≡ hash v → slot ≡ takes s → a.ok t' → a.room t' ≡ a.room t → Same (a.pairs t') ((h, slot) ∷ a.pairs t) → Indexed a hash (taken s v) t'
-  indexed_taken s t t' v h slot k x eh es ok er same = record {
-    ok = ok;
+  pub indexed_taken : (s : State R) (t t' : A) (v : R) (h slot : ℕ) → Linked s → Indexed a hash s t → h ≡ hash v → slot ≡ takes s → a.room t' ≡ a.room t → Same (a.pairs t') ((h, slot) ∷ a.pairs t) → Indexed a hash (taken s v) t'
+  indexed_taken s t t' v h slot k x eh es er same = record {
     pairs = λ q. omega (arith, same q, due_taken hash s v k q, x.pairs q, ap (λ n. one (q (n, slot))) eh, ap (λ n. one (q (hash v, n))) es);
     room = omega (arith, x.room, same_capacity s v);
   }
@@ -88,9 +87,8 @@ module _ {R A : Type 0} (a : table.Ghosts A) (hash : R → ℕ) where
       refused e (q ∙ cond-false (eqb (length (a.pairs t)) (a.room t)) 8 0 ne)
 
   -- a record is taken out
-  pub indexed_freed : (s : State R) (t t' : A) (r : R) (h slot : ℕ) → slot < length s.slots → at s.slots slot ≡ Occupied r → Indexed a hash s t → h ≡ hash r → a.ok t' → a.room t' ≡ a.room t → Same (a.pairs t) ((h, slot) ∷ a.pairs t') → Indexed a hash (freed s slot) t'
-  indexed_freed s t t' r h slot l o x eh ok er same = record {
-    ok = ok;
+  pub indexed_freed : (s : State R) (t t' : A) (r : R) (h slot : ℕ) → slot < length s.slots → at s.slots slot ≡ Occupied r → Indexed a hash s t → h ≡ hash r → a.room t' ≡ a.room t → Same (a.pairs t) ((h, slot) ∷ a.pairs t') → Indexed a hash (freed s slot) t'
+  indexed_freed s t t' r h slot l o x eh er same = record {
     pairs = λ q.
         let d = due_set hash q 0 s.slots slot (Vacant s.head) l in
         let d' = rw (zero-add slot) at d in
@@ -109,7 +107,6 @@ module _ {R A : Type 0} (a : table.Ghosts A) (hash : R → ℕ) where
   -- another record with the same hash in its slot
   pub indexed_exchanged : (s : State R) (t : A) (r v : R) (slot : ℕ) → slot < length s.slots → at s.slots slot ≡ Occupied r → hash v ≡ hash r → Indexed a hash s t → Indexed a hash (exchanged s slot v) t
   indexed_exchanged s t r v slot l o e x = record {
-    ok = x.ok;
     pairs = λ q.
         let d = due_set hash q 0 s.slots slot (Occupied v) l in
         let d' = rw (zero-add slot) at d in

@@ -43,14 +43,13 @@ module _ {R : Type 0} (hash : R → ℕ) where
 
 module _ {R A : Type 0} (a : table.Ghosts A) (hash : R → ℕ) where
   -- a table that was moved along is the table of the compacted slots
-  pub indexed_packed : (s : State R) (t t' : A) (ws : List ℕ) (n : ℕ) → Linked s → Indexed a hash s t → a.ok t' → a.room t' ≡ a.room t → ◌≡◌ {A = ℕ × List (ℕ × ℕ)} (n, a.pairs t') (remapping (noted s ws) (a.pairs t)) → Indexed a hash (packed s) t'
-  indexed_packed s t t' ws n k x ok er e =
+  pub indexed_packed : (s : State R) (t t' : A) (ws : List ℕ) (n : ℕ) → Linked s → Indexed a hash s t → a.room t' ≡ a.room t → ◌≡◌ {A = ℕ × List (ℕ × ℕ)} (n, a.pairs t') (remapping (noted s ws) (a.pairs t)) → Indexed a hash (packed s) t'
+  indexed_packed s t t' ws n k x er e =
       let places : List ℕ = noted s ws in
       let z : times (homeless places) (a.pairs t) ≡ 0 = x.pairs (homeless places) ∙ due_placed hash 0 [] s.slots (drop (length s.slots) ws) (omega (arith, k.within, k.small)) in
       let e' = rw (eq-eqb (times (homeless places) (a.pairs t)) 0 z) at e in
       let f : a.pairs t' ≡ map (moved places) (a.pairs t) = ap (λ p. p.1) e' in
       record {
-        ok = ok;
         pairs = λ q.
             ap (times q) f ∙ times_map q (moved places) (a.pairs t) ∙ x.pairs (λ p. q (moved places p)) ∙ sym (times_map q (moved places) (due hash 0 s.slots))
             ∙ sym (ap (times q) (due_closed hash 0 [] s.slots (drop (length s.slots) ws)));

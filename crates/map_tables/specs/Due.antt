@@ -22,7 +22,6 @@ key_hash h hasher k part r = h.hashed hasher (k.words (part r))
 
 -- the table holds one pair for each standing record and no other, and has room for all that may stand
 pub record Indexed {R A : Type 0} (a : table.Ghosts A) (hash : R → ℕ) (s : State R) (t : A) : Type 0 where
-  pub ok : a.ok t
   pub pairs : Same (a.pairs t) (due hash 0 s.slots)
   pub room : s.capacity ≤ a.room t
 

@@ -1,10 +1,9 @@
-// The two tables of a map, by which a record is found under either key.
+// The parts of a map, and its two tables, by which a record is found under either key.
 #![tactic(auto)]
 
 ghost use Rattle.std.specs.Prelude.{◌≡◌, ℕ, [], ◌∷◌, MatchResult};
 ghost use Rattle.base.specs.Counting.{Same};
 ghost use Rattle.hash_table.specs.Pairs.{adding, removing, remapping};
-ghost use Rattle.item_set.specs.Sets.{meaning};
 ghost use Rattle.map_tables.specs.Due.{key_hash, Searchable};
 ghost use Rattle.memory.specs.Refusals.{code};
 ghost use Rattle.model.specs.Model.{find, has};
@@ -17,6 +16,8 @@ use item_set::set::ItemSet;
 use item_set::slot::ItemSlot;
 use memory::{Memory, StorageRefusal};
 use model::Found;
+
+pub mod parts;
 
 // A table of the slots of a map under one key.
 #[derive(Drop)]
@@ -34,7 +35,6 @@ fn compute_hash<H: WordHash, K: Key>(hasher: &H, key: &K) -> u64
 impl<A: HashTable> MapHashTable<A> {
     // A table with no pair: what was given is emptied.
     pub fn new(mut items: A) -> MapHashTable<A>
-        ensures ok { A.HashTable.ok result.items }
         ensures pairs { A.HashTable.pairs result.items ≡ [] }
         ensures room { A.HashTable.room result.items ≡ A.HashTable.room items }
     {
@@ -55,15 +55,13 @@ impl<A: HashTable> MapHashTable<A> {
         key: &S::K,
         items: &ItemSet<S::R, M>,
     ) -> Option<Found<S::R>>
-        ensures { Searchable S.Side.part S.K.Key.same A.HashTable (key_hash H.WordHash hasher.now S.K.Key S.Side.part) (meaning M.Memory items.now) self.now.items → result ≡ find (has S.Side.part S.K.Key.same key.now) 0 (meaning M.Memory items.now).slots }
+        ensures { Searchable S.Side.part S.K.Key.same A.HashTable (key_hash H.WordHash hasher.now S.K.Key S.Side.part) items.now self.now.items → result ≡ find (has S.Side.part S.K.Key.same key.now) 0 items.now.slots }
     {
         let hash = compute_hash(hasher, key);
         for k in 0..self.items.len() {
-            let Some(slot) = self.items.candidate(hash, k) else {
-                return None;
-            };
+            let slot = self.items.candidate(hash, k)?;
             if let Some(item) = items.get(slot) {
-                if key.equals(&S::part(&item)) {
+                if *key == S::part(&item) {
                     return Some(Found { slot, item });
                 }
             }
@@ -74,9 +72,8 @@ impl<A: HashTable> MapHashTable<A> {
     // Puts a slot in under the hash of its key.
     pub fn insert_prehashed(&mut self, hash: u64, slot: u32) -> Result<(), StorageRefusal>
         ensures room { A.HashTable.room self.new.items ≡ A.HashTable.room self.old.items }
-        ensures ok { A.HashTable.ok self.old.items → A.HashTable.ok self.new.items }
-        ensures code { A.HashTable.ok self.old.items → code result ≡ adding (A.HashTable.room self.old.items) (A.HashTable.pairs self.old.items) }
-        ensures pairs { A.HashTable.ok self.old.items → MatchResult result (λ _. Same (A.HashTable.pairs self.new.items) ((hash, slot) ∷ A.HashTable.pairs self.old.items)) (λ _. A.HashTable.pairs self.new.items ≡ A.HashTable.pairs self.old.items) }
+        ensures code { code result ≡ adding (A.HashTable.room self.old.items) (A.HashTable.pairs self.old.items) }
+        ensures pairs { MatchResult result (λ _. Same (A.HashTable.pairs self.new.items) ((hash, slot) ∷ A.HashTable.pairs self.old.items)) (λ _. A.HashTable.pairs self.new.items ≡ A.HashTable.pairs self.old.items) }
     {
         self.items.add(hash, slot)
     }
@@ -84,9 +81,8 @@ impl<A: HashTable> MapHashTable<A> {
     // Takes a slot out that stands under the hash.
     pub fn remove_prehashed(&mut self, hash: u64, slot: u32) -> Result<(), StorageRefusal>
         ensures room { A.HashTable.room self.new.items ≡ A.HashTable.room self.old.items }
-        ensures ok { A.HashTable.ok self.old.items → A.HashTable.ok self.new.items }
-        ensures code { A.HashTable.ok self.old.items → code result ≡ removing (A.HashTable.pairs self.old.items) hash slot }
-        ensures pairs { A.HashTable.ok self.old.items → MatchResult result (λ _. Same (A.HashTable.pairs self.old.items) ((hash, slot) ∷ A.HashTable.pairs self.new.items)) (λ _. A.HashTable.pairs self.new.items ≡ A.HashTable.pairs self.old.items) }
+        ensures code { code result ≡ removing (A.HashTable.pairs self.old.items) hash slot }
+        ensures pairs { MatchResult result (λ _. Same (A.HashTable.pairs self.old.items) ((hash, slot) ∷ A.HashTable.pairs self.new.items)) (λ _. A.HashTable.pairs self.new.items ≡ A.HashTable.pairs self.old.items) }
     {
         self.items.remove(hash, slot)
     }
@@ -94,8 +90,7 @@ impl<A: HashTable> MapHashTable<A> {
     // Turns each slot s into place s of the list: where the records went when the slots were compacted.
     pub fn remap_indexes(&mut self, places: &[u32]) -> Result<(), StorageRefusal>
         ensures room { A.HashTable.room self.new.items ≡ A.HashTable.room self.old.items }
-        ensures ok { A.HashTable.ok self.old.items → A.HashTable.ok self.new.items }
-        ensures step { A.HashTable.ok self.old.items → (code result, A.HashTable.pairs self.new.items) ≡ remapping places.now (A.HashTable.pairs self.old.items) }
+        ensures step { (code result, A.HashTable.pairs self.new.items) ≡ remapping places.now (A.HashTable.pairs self.old.items) }
     {
         self.items.remap(places)
     }

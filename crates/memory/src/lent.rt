@@ -1,7 +1,8 @@
 // Memory that its maker passes in.
-ghost use Rattle.std.specs.Prelude.{◌≡◌, ◌<◌, ◌≤◌, [], length, take, slice_index_or};
+ghost use Rattle.std.specs.Prelude.{◌≡◌, [], length};
 
-use crate::{Memory, StorageRefusal};
+use crate::{Memory, StorageRefusal, cells};
+use std::marker::Model;
 
 // The first len cells of a slice, whose length is the capacity.
 #[derive(Drop)]
@@ -10,44 +11,33 @@ pub struct Lent<'a, T> {
     len: usize,
 }
 
+impl<'a, T> Model for Lent<'a, T> {
+    ghost use Rattle.std.specs.Prelude.{◌≤◌, length, take};
+    ghost use Rattle.memory.specs.Contents.{Contents};
+
+    ghost Value = { Contents T };
+
+    ghost view = { λ m. record { items = take m.len m.cells.now; room = length m.cells.now } };
+
+    ghost invariant = { λ m. m.len ≤ length m.cells.now };
+}
+
 impl<'a, T> Lent<'a, T> {
     // Nothing is held yet.
     pub fn new(cells: &'a mut [T]) -> Lent<'a, T>
-        ensures items { take result.len result.cells.now ≡ [] }
-        ensures room { length result.cells.now ≡ length cells.old }
+        ensures { result ≡ record { items = []; room = length cells.old } }
     {
         Lent { cells, len: 0 }
     }
-
-    // How many cells are in use: never more than there are.
-    fn used(&self) -> usize
-        ensures count { result ≡ length (take self.now.len self.now.cells.now) }
-        ensures within { result ≤ self.now.len }
-        ensures there { result ≤ length self.now.cells.now }
-    {
-        if self.len < self.cells.len() {
-            self.len
-        } else {
-            self.cells.len()
-        }
-    }
-}
-
-// The element at a place within the slice.
-fn element<T: Copy>(cells: &[T], place: usize) -> T
-    requires { place < length cells.now }
-    ensures { result ≡ slice_index_or cells.now place result }
-{
-    cells[place]
 }
 
 impl<'a, T: Copy> Memory<T> for Lent<'a, T> {
-    ghost items = { λ m. take m.len m.cells.now };
+    ghost items = { λ m. m.items };
 
-    ghost room = { λ m. length m.cells.now };
+    ghost room = { λ m. m.room };
 
     fn len(&self) -> usize {
-        self.used()
+        self.len
     }
 
     fn capacity(&self) -> usize {
@@ -55,35 +45,20 @@ impl<'a, T: Copy> Memory<T> for Lent<'a, T> {
     }
 
     fn read(&self, place: usize) -> Result<T, StorageRefusal> {
-        if place < self.used() {
-            Ok(element(self.cells, place))
-        } else {
-            Err(StorageRefusal::NoSuchPlace)
-        }
+        cells::read(&self.cells[..self.len], place)
     }
 
     fn write(&mut self, place: usize, x: T) -> Result<(), StorageRefusal> {
-        let end = self.used();
-        if place >= end {
-            return Err(StorageRefusal::NoSuchPlace);
-        }
-        self.cells[place] = x;
-        Ok(())
+        cells::write(&mut self.cells[..self.len], place, x)
     }
 
     fn push(&mut self, x: T) -> Result<(), StorageRefusal> {
-        if self.len < self.cells.len() {
-            self.cells[self.len] = x;
-            self.len += 1;
-            Ok(())
-        } else {
-            Err(StorageRefusal::AtCapacity)
-        }
+        cells::write(self.cells, self.len, x).map_err(|_| StorageRefusal::AtCapacity)?;
+        self.len += 1;
+        Ok(())
     }
 
     fn truncate(&mut self, n: usize) {
-        if n < self.len {
-            self.len = n;
-        }
+        self.len = self.len.min(n);
     }
 }

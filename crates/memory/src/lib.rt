@@ -1,10 +1,11 @@
 // Storage for plain elements, known by what it holds: a list of elements and a capacity.
 #![tactic(auto)]
 
-ghost use Rattle.std.specs.Prelude.{◌≡◌, ℕ, ◌<◌, ◌≤◌, List, [], length, take};
+ghost use Rattle.std.specs.Prelude.{◌≡◌, ℕ, ◌≤◌, List, length, take};
 ghost use Rattle.memory.specs.Refusals.{code, given};
 ghost use Rattle.memory.specs.Stored.{reading, writing, pushing};
 
+pub mod cells;
 pub mod lent;
 
 // What a user of a memory or a table may be refused.

@@ -102,6 +102,3 @@ module _ {R K1 K2 : Type 0} (kind : Kind R K1 K2) where
   well_by : (m : R → Bool) (s : State R) (o : Option (Found R)) → Tells m s.slots o → WellFormed kind s → WellFormed kind (freed_at s o)
   well_by m s None t w = w
   well_by m s (Some f) t w = well_freed kind s f.slot f.item t.0 t.1 w
-
-  pub well_without : (m : R → Bool) (s : State R) → WellFormed kind s → WellFormed kind (without m s)
-  well_without m s w = well_by m s (find m 0 s.slots) (tells m s.slots _ refl) w

@@ -1,9 +1,9 @@
 -- The step of an insert, by what was found.
-use Rattle.std.proofs.Common.{◌≡◌, ℕ, ◌<◌, ◌≤◌, Bool, true, false, eqb, [], ◌∷◌, length, sym, ap, ◌∙◌, arith}
-use Rattle.std.proofs.lemmas.Bool.{eq-eqb, ne_eqb, le-leb, lt-leb}
+use Rattle.std.proofs.Common.{◌≡◌, ◌≤◌, Bool, false, eqb, [], ◌∷◌, length, sym, ap, ◌∙◌, arith}
+use Rattle.std.proofs.lemmas.Bool.{ne_eqb}
 use Rattle.item_set.specs.Slots.{tally, shown}
-use Rattle.item_set.specs.States.{State, standing, taken, takes}
-use Rattle.model.specs.Answers.{goes, refused, placed}
+use Rattle.item_set.specs.States.{State}
+use Rattle.model.specs.Answers.{goes, refused}
 use Rattle.model.specs.declared.Duplicates.{Duplicates}
 use Rattle.model.specs.declared.Duplicates.TheVariants.{One, Two}
 use Rattle.model.specs.Model.{either, inserting}
@@ -24,13 +24,3 @@ module _ {R : Type 0} (p q : R → Bool) (r : R) (s : State R) where
       let n : eqb (tally (either p q) s.slots) 0 ≡ false =
       ne_eqb _ _ (λ z. omega (arith, z, length_shown (either p q) s.slots, ap length e, some_listed d)) in
       rw (n, e)
-
-  pub inserting_full : (t : State R) → [] ≡ shown (either p q) s.slots → s.capacity ≤ standing s → t ≡ s → goes t (refused 2 []) ≡ inserting p q r s
-  inserting_full t e l et =
-      let z : eqb (tally (either p q) s.slots) 0 ≡ true = eq-eqb _ _ (none_share e) in
-      rw (z, le-leb s.capacity (standing s) l, et)
-
-  pub inserting_taken : (t : State R) (slot : ℕ) → [] ≡ shown (either p q) s.slots → standing s < s.capacity → slot ≡ takes s → t ≡ taken s r → goes t (placed slot []) ≡ inserting p q r s
-  inserting_taken t slot e l es et =
-      let z : eqb (tally (either p q) s.slots) 0 ≡ true = eq-eqb _ _ (none_share e) in
-      rw (z, lt-leb s.capacity (standing s) l, es, et)

@@ -1,8 +1,6 @@
 -- What the answers of the code tell: number and values for every case.
 use Rattle.std.specs.Prelude.{ℕ, cond, List, [], ◌∷◌, Some, None, Ok, Err, Option, Result, ◌==◌, nat_lt}
 use Rattle.model.specs.Answers.{Answer, refused, placed}
-use Rattle.model.specs.declared.Displaced.{Displaced}
-use Rattle.model.specs.declared.Displaced.TheVariants as displaced
 use Rattle.model.specs.declared.Duplicates.{Duplicates}
 use Rattle.model.specs.declared.Duplicates.TheVariants.{One, Two}
 use Rattle.model.specs.declared.Found.{Found}
@@ -14,9 +12,15 @@ abbrev pub listed : {R : Type 0} → Duplicates R → List R
 listed (One a) = a ∷ []
 listed (Two a b) = a ∷ b ∷ []
 
+-- the records that share a key, if any
 abbrev pub shared : {R : Type 0} → Option (Duplicates R) → List R
 shared None = []
 shared (Some d) = listed d
+
+-- the record in an answer, if there is one
+abbrev pub one_of : {R : Type 0} → Option R → List R
+one_of None = []
+one_of (Some a) = a ∷ []
 
 -- the records that two searches found, by ascending slot, and one that both found once
 abbrev pub in_order : {R : Type 0} → Option (Found R) → Option (Found R) → List R
@@ -46,12 +50,7 @@ abbrev pub looked : {R : Type 0} → Result (Found R) (MapRefusal R) → Answer 
 looked (Ok f) = placed f.slot (f.item ∷ [])
 looked (Err e) = refusal e
 
-abbrev pub displaced_list : {R : Type 0} → Displaced R → List R
-displaced_list displaced.Nothing = []
-displaced_list (displaced.One a) = a ∷ []
-displaced_list (displaced.Two a b) = a ∷ b ∷ []
-
 -- an answer with a slot and what was displaced
 abbrev pub overwritten : {R : Type 0} → Result (Overwritten R) (MapRefusal R) → Answer R
-overwritten (Ok o) = placed o.slot (displaced_list o.displaced)
+overwritten (Ok o) = placed o.slot (shared o.displaced)
 overwritten (Err e) = refusal e

@@ -1,25 +1,34 @@
 // A memory for index pairs inside the value: no allocation and no borrow.
 #![tactic(auto)]
 
-ghost use Rattle.std.specs.Prelude.{◌≡◌, ◌≤◌, [], length, take};
+ghost use Rattle.std.specs.Prelude.{◌≡◌, []};
 
 use hash_table::index::HashedIndex;
-use memory::{Memory, StorageRefusal};
+use memory::{Memory, StorageRefusal, cells};
+use std::marker::Model;
 
 // The first len of 64 cells.
 #[derive(Drop)]
 pub struct PairBlock {
     pairs: [HashedIndex; 64],
     len: usize,
-    ghost sized: { length pairs ≡ 64 },
-    ghost within: { len ≤ 64 },
+}
+
+impl Model for PairBlock {
+    ghost use Rattle.std.specs.Prelude.{◌≡◌, ◌≤◌, List, length, take};
+    ghost use Rattle.hash_table.specs.declared.index.HashedIndex.{HashedIndex};
+
+    ghost Value = { List HashedIndex };
+
+    ghost view = { λ m. take m.len m.pairs };
+
+    ghost invariant = { λ m. (length m.pairs ≡ 64) × (m.len ≤ 64) };
 }
 
 impl PairBlock {
     // Nothing is held yet.
     pub fn new() -> PairBlock
-        ensures items { take result.len result.pairs ≡ [] }
-        ensures room { length result.pairs ≡ 64 }
+        ensures { result ≡ [] }
     {
         PairBlock {
             pairs: [HashedIndex::EMPTY; 64],
@@ -29,9 +38,9 @@ impl PairBlock {
 }
 
 impl Memory<HashedIndex> for PairBlock {
-    ghost items = { λ m. take m.len m.pairs };
+    ghost items = { λ m. m };
 
-    ghost room = { λ m. length m.pairs };
+    ghost room = { λ m. 64 };
 
     fn len(&self) -> usize {
         self.len
@@ -42,34 +51,20 @@ impl Memory<HashedIndex> for PairBlock {
     }
 
     fn read(&self, place: usize) -> Result<HashedIndex, StorageRefusal> {
-        if place < self.len {
-            Ok(self.pairs[place])
-        } else {
-            Err(StorageRefusal::NoSuchPlace)
-        }
+        cells::read(&self.pairs[..self.len], place)
     }
 
     fn write(&mut self, place: usize, x: HashedIndex) -> Result<(), StorageRefusal> {
-        if place >= self.len {
-            return Err(StorageRefusal::NoSuchPlace);
-        }
-        self.pairs[place] = x;
-        Ok(())
+        cells::write(&mut self.pairs[..self.len], place, x)
     }
 
     fn push(&mut self, x: HashedIndex) -> Result<(), StorageRefusal> {
-        if self.len < self.pairs.len() {
-            self.pairs[self.len] = x;
-            self.len += 1;
-            Ok(())
-        } else {
-            Err(StorageRefusal::AtCapacity)
-        }
+        cells::write(&mut self.pairs, self.len, x).map_err(|_| StorageRefusal::AtCapacity)?;
+        self.len += 1;
+        Ok(())
     }
 
     fn truncate(&mut self, n: usize) {
-        if n < self.len {
-            self.len = n;
-        }
+        self.len = self.len.min(n);
     }
 }

@@ -2,12 +2,12 @@
 use Rattle.std.proofs.Common.{◌≡◌, ℕ, zero, suc, ◌+◌, ◌%◌, ◌<◌, ◌≤◌, Bool, true, false, cond, ◌&&◌, eqb, ltb, ◌⊎◌, List, [], ◌∷◌, ◌++◌, map, length, take, drop, sym, refl, ap, ◌∙◌, inl, inr, ⊎_elim, mod-lt, arith}
 use Rattle.std.proofs.lemmas.List.{nil_from_length, length-append, length-take, length-drop, append-nil, map-append, drop-map, take-map}
 use Rattle.std.proofs.lemmas.Bool.{cases_lt, cases_eq, lt-ltb, le-ltb, eqb-true, eq-eqb, ne_eqb}
-use Rattle.hash_table.specs.Cells.{pair_of}
-use Rattle.hash_table.specs.Pairs.{slots_of, is_pair, new_slot, moved}
+use Rattle.hash_table.specs.Cells.{pair_of, held, holding, cell_moved}
+use Rattle.hash_table.specs.Pairs.{slots_of, moved}
 use Rattle.hash_table.specs.declared.index.HashedIndex.{HashedIndex}
 use Rattle.base.specs.Counting.{one, times}
 use Rattle.base.proofs.Counts.{times_all}
-use Rattle.probing_table.specs.Marks.{held, holding, answers}
+use Rattle.probing_table.specs.Marks.{answers}
 use Rattle.probing_table.specs.Probed.{rotated, kept, at_home, homes, probed}
 use Rattle.probing_table.proofs.Counting.{times_append, times_split, times_like, times_le_length}
 use Rattle.probing_table.proofs.Rounds.{times_rotated}
@@ -99,7 +99,7 @@ module _ (n : ℕ) (xs : List HashedIndex) (len : length xs ≡ n) where
   length_probed = sym (times_all (probed n xs)) ∙ times_probed (λ _. true)
 
 -- those of one hash
-slots_cond : (h : ℕ) (b : Bool) (p : ℕ × ℕ) (ps : List (ℕ × ℕ))
+pub slots_cond : (h : ℕ) (b : Bool) (p : ℕ × ℕ) (ps : List (ℕ × ℕ))
     → slots_of h (cond b (p ∷ ps) ps) ≡ cond (b && eqb p.0 h) (p.1 ∷ slots_of h ps) (slots_of h ps)
 slots_cond h true p ps = refl
 slots_cond h false p ps = refl
@@ -196,20 +196,7 @@ slots_probed n xs h p len is_p = ⊎_elim many none (cases_lt 0 n)
         let short : length (rotated xs p) ≡ 0 = simp (length-append, length-drop, length-take) (omega arith) in
         ap (λ cs. slots_of h (kept (answers h) cs)) (nil_from_length (rotated xs p) short) ∙ sym (ap (λ m. slots_of h (homes n xs m)) z)
 
--- the pairs of a hash and a slot are counted by the slots of the hash
-pub times_slots : (h s : ℕ) (ps : List (ℕ × ℕ)) → times (is_pair h s) ps ≡ times (λ v. eqb v s) (slots_of h ps)
-times_slots h s [] = refl
-times_slots h s (p ∷ ps) = by (eqb p.0 h) (times_slots h s ps)
-  where
-    by : (b : Bool) → times (is_pair h s) ps ≡ times (λ v. eqb v s) (slots_of h ps)
-        → one (b && eqb p.1 s) + times (is_pair h s) ps ≡ times (λ v. eqb v s) (cond b (p.1 ∷ slots_of h ps) (slots_of h ps))
-    by true r = omega arith
-    by false r = omega arith
-
 -- those with other slots
-abbrev pub cell_moved : List ℕ → HashedIndex → HashedIndex
-cell_moved places c = record { hash = c.hash; slot = new_slot places c.slot; mark = c.mark }
-
 module _ (places : List ℕ) where
   cond_moved : (b : Bool) (p : ℕ × ℕ) (ps : List (ℕ × ℕ)) → cond b (moved places p ∷ map (moved places) ps) (map (moved places) ps) ≡ map (moved places) (cond b (p ∷ ps) ps)
   cond_moved true p ps = refl

@@ -1,148 +1,98 @@
--- A probe: at step j, what it has yet to meet.
-use Rattle.std.proofs.Common.{◌≡◌, ℕ, suc, ◌+◌, ◌-◌, ◌%◌, ◌<◌, ◌≤◌, Bool, true, false, cond, ◌&&◌, eqb, List, [], ◌∷◌, length, get_or, drop, Some, None, sym, refl, ap, ◌∙◌, ⊎_elim, arith}
-use Rattle.std.proofs.lemmas.List.{drop_more, drop_all, length-drop, get_or-drop}
-use Rattle.std.proofs.lemmas.Bool.{cases_Bool, eqb-true, and_parts, and_cases, both_ways, cond-true, cond-false}
-use Rattle.std.specs.List.{slice_get}
-use Rattle.hash_table.specs.Cells.{pair_of}
-use Rattle.hash_table.specs.Pairs.{candidate, is_pair}
+-- A probe from the home of a hash: the cells in its order, and what those tell that it does not read.
+use Rattle.std.proofs.Common.{◌≡◌, ℕ, suc, ◌+◌, ◌-◌, ◌%◌, ◌<◌, ◌≤◌, Bool, true, false, cond, ◌&&◌, not, eqb, List, [], ◌∷◌, map, length, get_or, take, Option, Some, None, slice_get, sym, refl, ap, ◌∙◌, MatchOption, IsSomeAnd, subst, inl, inr, arith}
+use Rattle.std.proofs.lemmas.List.{get_or_past}
+use Rattle.std.proofs.lemmas.List.FromFn.{fill_by_all}
+use Rattle.std.proofs.lemmas.Bool.{cases_Bool, cases_lt, eqb-true, and_parts, and_from, both_ways, not-true, not-false}
+use Rattle.std.specs.List.{range_with_len, prefix_len, filter, find}
+use Rattle.hash_table.specs.Cells.{pair_of, held, holding, cell_at, empty_cell}
+use Rattle.hash_table.specs.Pairs.{slots_of, candidate, is_pair}
 use Rattle.hash_table.specs.declared.index.HashedIndex.{HashedIndex}
-use Rattle.hash_table.proofs.Answering.{candidate_here, candidate_next}
 use Rattle.hash_table.proofs.Celled.{pair_same}
-use Rattle.base.specs.Counting.{times}
-use Rattle.base.proofs.Counts.{times_next}
-use Rattle.probing_table.specs.Marks.{vacant, held, holding, answers, cell_at, empty_cell}
-use Rattle.probing_table.specs.Probed.{spot, met, rotated, kept, probed, Reached}
-use Rattle.probing_table.proofs.Counting.{times_every}
+use Rattle.base.specs.Counting.{one, times}
+use Rattle.base.proofs.Options.{none_some, some_same}
+use Rattle.probing_table.specs.Marks.{vacant, answers}
+use Rattle.probing_table.specs.Probed.{spot, met, rotated, kept, probed, Laid, Full, Free, Absent, Stands}
+use Rattle.probing_table.proofs.Counting.{times_every, times_none}
 use Rattle.probing_table.proofs.Rounds.{length_rotated, met_rotated, times_rotated}
-use Rattle.probing_table.proofs.Listing.{length_probed, slots_probed, times_slots}
+use Rattle.probing_table.proofs.Listing.{times_probed, length_probed, slots_cond, slots_probed}
 
--- the pairs with the hash that are ahead at step j of a probe from p
-abbrev pub ahead : List HashedIndex → ℕ → ℕ → ℕ → List (ℕ × ℕ)
-ahead xs h p j = kept (answers h) (drop j (rotated xs p))
+-- behind an empty cell none passes
+abbrev Closed : (HashedIndex → Bool) → List HashedIndex → Type 0
+Closed t cs = (j k : ℕ) → j ≤ k → k < length cs → vacant (get_or cs j empty_cell) ≡ true → t (get_or cs k empty_cell) ≡ true → ⊥
 
--- candidate k is ahead, as candidate m
-abbrev pub CandidateAhead : ℕ → List HashedIndex → ℕ → ℕ → ℕ → ℕ → ℕ → Type 0
-CandidateAhead n xs h p k m j = candidate (ahead xs h p j) h m ≡ candidate (probed n xs) h k
+closed_rest : (t : HashedIndex → Bool) (c : HashedIndex) (cs : List HashedIndex) → Closed t (c ∷ cs) → Closed t cs
+closed_rest t c cs w j k le lt empty pass = w (suc j) (suc k) (omega arith) (omega arith) empty pass
 
--- every such pair is ahead
-abbrev pub AllAhead : ℕ → List HashedIndex → ℕ → ℕ → ℕ → ℕ → Type 0
-AllAhead n xs h s p j = times (is_pair h s) (ahead xs h p j) ≡ times (is_pair h s) (probed n xs)
+shut : (t : HashedIndex → Bool) (cs : List HashedIndex) → Closed t cs → vacant (get_or cs 0 empty_cell) ≡ true → (k : ℕ) → k < length cs → t (get_or cs k empty_cell) ≡ false
+shut t cs w empty k l = elim (cases_Bool (t (get_or cs k empty_cell))) [ inl y ↦ absurd (w 0 k (omega arith) l empty y) | inr f ↦ f ]
 
-kept_none : (t : HashedIndex → Bool) (cs : List HashedIndex) → ((k : ℕ) → k < length cs → t (get_or cs k empty_cell) ≡ false) → kept t cs ≡ []
-kept_none t [] e = refl
-kept_none t (c ∷ cs) e = cond-false (t c) (pair_of c ∷ kept t cs) (kept t cs) (e 0 (omega arith)) ∙ kept_none t cs (λ k l. e (suc k) (omega arith))
+filter_none : (t : HashedIndex → Bool) (cs : List HashedIndex) → ((k : ℕ) → k < length cs → t (get_or cs k empty_cell) ≡ false) → filter t cs ≡ []
+filter_none t [] e = refl
+filter_none t (c ∷ cs) e = ap (λ b. cond b (c ∷ filter t cs) (filter t cs)) (e 0 (omega arith)) ∙ filter_none t cs (λ k l. e (suc k) (omega arith))
 
-pub holds_parts : (h s : ℕ) (x : HashedIndex) → holding (is_pair h s) x ≡ true → (held x ≡ true) × (pair_of x ≡ (h, s))
+one_more : (n : ℕ) → 1 + n ≡ suc n
+one_more n = omega arith
+
+-- nothing is lost to a walk that stops at the first empty cell
+filter_before : (t : HashedIndex → Bool) (cs : List HashedIndex) → Closed t cs → filter t (take (prefix_len (λ c. not (vacant c)) cs) cs) ≡ filter t cs
+filter_before t [] w = refl
+filter_before t (c ∷ cs) w = by (vacant c) refl (filter_before t cs (closed_rest t c cs w))
+  where
+    by : (b : Bool) → vacant c ≡ b → filter t (take (prefix_len (λ x. not (vacant x)) cs) cs) ≡ filter t cs
+        → filter t (take (cond (not b) (1 + prefix_len (λ x. not (vacant x)) cs) 0) (c ∷ cs)) ≡ filter t (c ∷ cs)
+    by true e r = sym (filter_none t (c ∷ cs) (shut t (c ∷ cs) w e))
+    by false e r = ap (λ m. filter t (take m (c ∷ cs))) (one_more (prefix_len (λ x. not (vacant x)) cs)) ∙ ap (λ l. cond (t c) (c ∷ l) l) r
+
+some_not_none : (b : Bool) (j t : ℕ) (r : Option ℕ) → (r ≡ None → t ≡ 0) → cond b (Some j) r ≡ None → one b + t ≡ 0
+some_not_none true j t r w e = absurd (none_some (sym e))
+some_not_none false j t r w e = let z = w e in omega arith
+
+find_before : (q : HashedIndex → Bool) (cell : ℕ → HashedIndex) (js : List ℕ) → Closed q (map cell js)
+    → find (λ j. q (cell j)) (take (prefix_len (λ j. not (vacant (cell j))) js) js) ≡ None → times q (map cell js) ≡ 0
+find_before q cell [] w none = refl
+find_before q cell (j ∷ js) w none = by (vacant (cell j)) refl (find_before q cell js (closed_rest q (cell j) (map cell js) w)) none
+  where
+    by : (b : Bool) → vacant (cell j) ≡ b → (find (λ i. q (cell i)) (take (prefix_len (λ i. not (vacant (cell i))) js) js) ≡ None → times q (map cell js) ≡ 0)
+        → find (λ i. q (cell i)) (take (cond (not b) (1 + prefix_len (λ i. not (vacant (cell i))) js) 0) (j ∷ js)) ≡ None → times q (map cell (j ∷ js)) ≡ 0
+    by true e r f = times_none q (map cell (j ∷ js)) empty_cell (shut q (map cell (j ∷ js)) w e)
+    by false e r f =
+        some_not_none
+        (q (cell j))
+        j
+        (times q (map cell js))
+        _
+        r
+        (sym (ap (λ m. find (λ i. q (cell i)) (take m (j ∷ js))) (one_more (prefix_len (λ i. not (vacant (cell i))) js))) ∙ f)
+
+find_passes : (q : ℕ → Bool) (js : List ℕ) (j : ℕ) → find q js ≡ Some j → q j ≡ true
+find_passes q [] j e = absurd (none_some e)
+find_passes q (i ∷ js) j e = by (q i) refl (find_passes q js j) e
+  where
+    by : (b : Bool) → q i ≡ b → (find q js ≡ Some j → q j ≡ true) → cond b (Some i) (find q js) ≡ Some j → q j ≡ true
+    by true t r f = ap q (sym (some_same f)) ∙ t
+    by false t r f = r f
+
+slots_filtered : (h : ℕ) (cs : List HashedIndex) → map (λ c. c.slot) (filter (answers h) cs) ≡ slots_of h (kept (answers h) cs)
+slots_filtered h [] = refl
+slots_filtered h (c ∷ cs) = by (held c) (eqb c.hash h) (slots_filtered h cs) ∙ sym (slots_cond h (answers h c) (pair_of c) (kept (answers h) cs))
+  where
+    by : (a b : Bool) → map (λ c. c.slot) (filter (answers h) cs) ≡ slots_of h (kept (answers h) cs)
+        → map (λ c. c.slot) (cond (a && b) (c ∷ filter (answers h) cs) (filter (answers h) cs)) ≡ cond ((a && b) && b) (c.slot ∷ slots_of h (kept (answers h) cs)) (slots_of h (kept (answers h) cs))
+    by true true r = ap (λ l. c.slot ∷ l) r
+    by true false r = r
+    by false b r = r
+
+holds_parts : (h s : ℕ) (x : HashedIndex) → holding (is_pair h s) x ≡ true → (held x ≡ true) × (answers h x ≡ true) × (pair_of x ≡ (h, s))
 holds_parts h s x e =
     let a = and_parts (held x) (is_pair h s (pair_of x)) e in
     let b = and_parts (eqb x.hash h) (eqb x.slot s) a.1 in
-    (a.0, pair_same x h s (eqb-true x.hash h b.0) (eqb-true x.slot s b.1))
+    (a.0, and_from (held x) (eqb x.hash h) a.0 b.0, pair_same x h s (eqb-true x.hash h b.0) (eqb-true x.slot s b.1))
 
--- a probe for h from its home p
-module _ (n : ℕ) (xs : List HashedIndex) (h p : ℕ) (len : length xs ≡ n) (low : p ≤ n - 1) (is_p : 0 < n → p ≡ h % n) where
-  pub candidate_begins : (k m : ℕ) → m ≡ k → CandidateAhead n xs h p k m 0
-  candidate_begins k m e = ap (candidate (ahead xs h p 0) h) e ∙ ap (λ l. slice_get l k) (slots_probed n xs h p len is_p)
-
-  pub times_begins : (s : ℕ) → AllAhead n xs h s p 0
-  times_begins s =
-      times_slots h s (kept (answers h) (rotated xs p))
-      ∙ ap (times (λ v. eqb v s)) (slots_probed n xs h p len is_p)
-      ∙ sym (times_slots h s (probed n xs))
-
-  ends : (j : ℕ) → n ≤ j → ahead xs h p j ≡ []
-  ends j l = let m = length_rotated n xs p len (omega arith) in ap (kept (answers h)) (drop_all j (rotated xs p) (omega arith))
-
-  pub candidate_ends : (k m j : ℕ) → n ≤ j → CandidateAhead n xs h p k m j → None ≡ candidate (probed n xs) h k
-  candidate_ends k m j l w = sym (ap (λ l. candidate l h m) (ends j l)) ∙ w
-
-  pub times_ends : (s j : ℕ) → n ≤ j → AllAhead n xs h s p j → times (is_pair h s) (probed n xs) ≡ 0
-  times_ends s j l w = sym w ∙ ap (times (is_pair h s)) (ends j l)
-
-  -- at step j, where x was read
-  module _ (j i : ℕ) (x : HashedIndex) (l : j < n) (is-i : i ≡ spot n p j) (e : x ≡ cell_at xs i) where
-    here : get_or (rotated xs p) j empty_cell ≡ x
-    here = met_rotated n xs p len j (omega arith) l ∙ ap (cell_at xs) (sym is-i) ∙ sym e
-
-    split : drop j (rotated xs p) ≡ x ∷ drop (j + 1) (rotated xs p)
-    split =
-        let m = length_rotated n xs p len (omega arith) in
-        drop_more (rotated xs p) j empty_cell (omega arith) ∙ ap (λ c. c ∷ drop (j + 1) (rotated xs p)) here
-
-    step : ahead xs h p j ≡ cond (answers h x) (pair_of x ∷ ahead xs h p (j + 1)) (ahead xs h p (j + 1))
-    step = ap (kept (answers h)) split
-
-    met_it : answers h x ≡ true → ahead xs h p j ≡ pair_of x ∷ ahead xs h p (j + 1)
-    met_it t = step ∙ cond-true (answers h x) (pair_of x ∷ ahead xs h p (j + 1)) (ahead xs h p (j + 1)) t
-
-    passed : answers h x ≡ false → ahead xs h p j ≡ ahead xs h p (j + 1)
-    passed f = step ∙ cond-false (answers h x) (pair_of x ∷ ahead xs h p (j + 1)) (ahead xs h p (j + 1)) f
-
-    is_hash : answers h x ≡ true → x.hash ≡ h
-    is_hash t = eqb-true x.hash h (and_parts (held x) (eqb x.hash h) t).1
-
-    -- behind an empty cell there is none
-    stops : Reached n xs → vacant x ≡ true → ahead xs h p j ≡ []
-    stops ok empty =
-        let m = length_rotated n xs p len (omega arith) in
-        let m' = length-drop j (rotated xs p) in
-        kept_none
-        (answers h)
-        (drop j (rotated xs p))
-        (λ k lk.
-        let there : get_or (drop j (rotated xs p)) k empty_cell ≡ met n xs (h % n) (j + k) =
-        get_or-drop j (rotated xs p) k empty_cell
-        ∙ met_rotated n xs p len (j + k) (omega arith) (omega arith)
-        ∙ ap (λ q. met n xs q (j + k)) (is_p (omega arith))
-        in
-        let at_j : met n xs (h % n) j ≡ x =
-        ap (λ q. met n xs q j) (sym (is_p (omega arith))) ∙ ap (cell_at xs) (sym is-i) ∙ sym e
-        in
-        ⊎_elim
-        (λ (t : answers h (get_or (drop j (rotated xs p)) k empty_cell) ≡ true).
-        absurd (ok h j (j + k) (omega arith) (omega arith) (ap vacant at_j ∙ empty) (sym (ap (answers h) there) ∙ t)))
-        (λ f. f)
-        (cases_Bool (answers h (get_or (drop j (rotated xs p)) k empty_cell))))
-
-    module _ (k m : ℕ) (w : CandidateAhead n xs h p k m j) where
-      pub candidate_found : answers h x ≡ true → m ≡ 0 → Some x.slot ≡ candidate (probed n xs) h k
-      candidate_found t z =
-          sym (candidate_here _ _ (pair_of x) h (met_it t) (is_hash t)) ∙ sym (ap (candidate (ahead xs h p j) h) z) ∙ w
-
-      pub candidate_counted : (m' : ℕ) → answers h x ≡ true → m ≡ suc m' → CandidateAhead n xs h p k m' (j + 1)
-      candidate_counted m' t z =
-          sym (candidate_next _ _ (pair_of x) h (met_it t) m' (is_hash t)) ∙ sym (ap (candidate (ahead xs h p j) h) z) ∙ w
-
-      pub candidate_passed : (m' : ℕ) → answers h x ≡ false → m ≡ m' → CandidateAhead n xs h p k m' (j + 1)
-      candidate_passed m' f z =
-          sym (ap (λ l. candidate l h m') (passed f)) ∙ sym (ap (candidate (ahead xs h p j) h) z) ∙ w
-
-      pub candidate_stops : Reached n xs → vacant x ≡ true → None ≡ candidate (probed n xs) h k
-      candidate_stops ok empty = sym (ap (λ l. candidate l h m) (stops ok empty)) ∙ w
-
-    module _ (s : ℕ) (w : AllAhead n xs h s p j) where
-      pub times_passed : holding (is_pair h s) x ≡ false → AllAhead n xs h s p (j + 1)
-      times_passed f =
-          ⊎_elim
-          (λ (t : answers h x ≡ true).
-          times_next
-          (is_pair h s)
-          _
-          _
-          (pair_of x)
-          (met_it t)
-          (⊎_elim
-          (λ (z : held x ≡ false). absurd (both_ways (held x) z (and_parts (held x) (eqb x.hash h) t).0))
-          (λ (z : is_pair h s (pair_of x) ≡ false). z)
-          (and_cases (held x) (is_pair h s (pair_of x)) f)))
-          (λ (t : answers h x ≡ false). ap (times (is_pair h s)) (sym (passed t)))
-          (cases_Bool (answers h x))
-          ∙ w
-
-      pub times_stops : Reached n xs → vacant x ≡ true → times (is_pair h s) (probed n xs) ≡ 0
-      times_stops ok empty = sym w ∙ ap (times (is_pair h s)) (stops ok empty)
+held_there : (xs : List HashedIndex) (i : ℕ) → held (cell_at xs i) ≡ true → i < length xs
+held_there xs i e = elim (cases_lt i (length xs)) [ inl l ↦ l | inr l ↦ absurd (both_ways (held (cell_at xs i)) (ap held (get_or_past xs i empty_cell l)) e) ]
 
 -- where each cell on the way round has a pair, all have
-pub all_held : (n : ℕ) (xs : List HashedIndex) (p : ℕ) → length xs ≡ n → p ≤ n - 1 → ((k : ℕ) → k < n → held (met n xs p k) ≡ true) → length (probed n xs) ≡ n
+all_held : (n : ℕ) (xs : List HashedIndex) (p : ℕ) → length xs ≡ n → p ≤ n - 1 → ((k : ℕ) → k < n → held (met n xs p k) ≡ true) → length (probed n xs) ≡ n
 all_held n xs p len low all =
     let m = length_rotated n xs p len (omega arith) in
     let pass : (c : HashedIndex) → held c ≡ true → holding (λ _. true) c ≡ true = λ c t. ap (λ b. b && true) t in
@@ -154,3 +104,70 @@ all_held n xs p len low all =
     empty_cell
     (λ k l. ap (holding (λ _. true)) (met_rotated n xs p len k (omega arith) (omega arith)) ∙ pass (met n xs p k) (all k (omega arith)))
     ∙ m
+
+-- a step that was found, and its place
+pub placed : (A : Type 0) (B : ℕ → Type 0) (post is : ℕ → ℕ → Type 0) (r s : Option ℕ) → MatchOption r (s ≡ None) (λ j. IsSomeAnd s (post j))
+    → ((j i : ℕ) → post j i → is j i) → MatchOption r A (λ j. (i : ℕ) → is j i → B i) → MatchOption s A B
+placed A B post is None s e told found = subst (λ t. MatchOption t A B) (sym e) found
+placed A B post is (Some j) None e told found = absurd e
+placed A B post is (Some j) (Some i) e told found = found i (told j i e)
+
+-- a probe for h from its home p, of m steps
+module _ (n : ℕ) (xs : List HashedIndex) (h p m : ℕ) (laid : Laid n xs) (low : p ≤ m - 1) (home : 0 < m → p ≡ h % m) (all : m ≡ n) where
+  is_p : 0 < n → p ≡ h % n
+  is_p l = home (omega arith) ∙ ap (λ k. h % k) all
+
+  at_step : (i j : ℕ) → (p ≤ m → i ≡ spot m p j) → spot n p j ≡ i
+  at_step i j e = sym (e (omega arith) ∙ ap (λ k. spot k p j) all)
+
+  cells_met : map (met n xs p) (range_with_len 0 m) ≡ rotated xs p
+  cells_met =
+      sym
+      (fill_by_all (met n xs p) (rotated xs p) m empty_cell (length_rotated n xs p laid.0 (omega arith) ∙ sym all) (λ k l. met_rotated n xs p laid.0 k (omega arith) (omega arith)))
+
+  closed : (t : HashedIndex → Bool) → ((x : HashedIndex) → t x ≡ true → answers h x ≡ true) → Closed t (rotated xs p)
+  closed t has j k le lt empty pass =
+      let long = length_rotated n xs p laid.0 (omega arith) in
+      let there : (i : ℕ) → i < n → get_or (rotated xs p) i empty_cell ≡ met n xs (h % n) i =
+      λ i l. met_rotated n xs p laid.0 i (omega arith) l ∙ ap (λ q. met n xs q i) (is_p (omega arith))
+      in
+      laid.1 h j k le (omega arith) (sym (ap vacant (there j (omega arith))) ∙ empty) (sym (ap (answers h) (there k (omega arith))) ∙ has _ pass)
+
+  pub candidate_met : (k : ℕ)
+      → slice_get (map (λ c. c.slot) (filter (answers h) (take (prefix_len (λ c. not (vacant c)) (map (met n xs p) (range_with_len 0 m))) (map (met n xs p) (range_with_len 0 m))))) k
+      ≡ candidate (probed n xs) h k
+  candidate_met k =
+      ap (λ cs. slice_get (map (λ c. c.slot) (filter (answers h) (take (prefix_len (λ c. not (vacant c)) cs) cs))) k) cells_met
+      ∙ ap (λ cs. slice_get (map (λ c. c.slot) cs) k) (filter_before (answers h) (rotated xs p) (closed (answers h) (λ x e. e)))
+      ∙ ap (λ l. slice_get l k) (slots_filtered h (rotated xs p) ∙ slots_probed n xs h p laid.0 is_p)
+
+  pub place_met : (s : ℕ) (r : Option ℕ)
+      → r ≡ find (λ j. holding (is_pair h s) (met n xs p j)) (take (prefix_len (λ j. not (vacant (met n xs p j))) (range_with_len 0 m)) (range_with_len 0 m))
+      → MatchOption r (Absent n xs h s) (λ j. (i : ℕ) → (p ≤ m → i ≡ spot m p j) → Stands n xs h s i)
+  place_met s None e =
+      let q = holding (is_pair h s) in
+      times_probed n xs laid.0 (is_pair h s)
+      ∙ sym (times_rotated q xs p)
+      ∙ sym (ap (times q) cells_met)
+      ∙ find_before q (met n xs p) (range_with_len 0 m) (subst (Closed q) (sym cells_met) (closed q (λ x t. (holds_parts h s x t).1))) (sym e)
+  place_met s (Some j) e =
+      let steps = range_with_len 0 m in
+      let a = holds_parts h s (met n xs p j) (find_passes (λ k. holding (is_pair h s) (met n xs p k)) (take (prefix_len (λ k. not (vacant (met n xs p k))) steps) steps) j (sym e)) in
+      λ i is. subst (Stands n xs h s) (at_step i j is) (omega (arith, held_there xs (spot n p j) a.0, laid.0), a.0, a.2)
+
+  pub free_met : (r : Option ℕ)
+      → MatchOption r ((k : ℕ) → 0 ≤ k → k < m → false ≡ not (held (met n xs p k))) (λ j. (0 ≤ j) × (j < m) × (true ≡ not (held (met n xs p j))) × ((k : ℕ) → 0 ≤ k → k < j → false ≡ not (held (met n xs p k))))
+      → MatchOption r (Full n xs) (λ j. (i : ℕ) → (p ≤ m → i ≡ spot m p j) → Free n xs h i)
+  free_met None full = all_held n xs p laid.0 (omega arith) (λ k l. not-false _ (sym (full k (omega arith) (omega arith))))
+  free_met (Some j) free =
+      let home_n : p ≡ h % n = is_p (omega (arith, free.1)) in
+      λ i is.
+      subst
+      (Free n xs h)
+      (at_step i j is) (
+        j,
+        omega (arith, free.1),
+        ap (λ q. spot n q j) home_n,
+        not-true _ (sym free.2),
+        λ k l. ap (λ q. held (met n xs q k)) (sym home_n) ∙ not-false _ (sym (free.3 k (omega arith) l)),
+      )

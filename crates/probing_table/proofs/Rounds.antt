@@ -4,7 +4,7 @@ use Rattle.std.proofs.lemmas.List.{take-append-drop, length-append, length-take,
 use Rattle.std.proofs.lemmas.Bool.{cases_lt, lt-ltb, le-ltb, cond-true, cond-false}
 use Rattle.hash_table.specs.declared.index.HashedIndex.{HashedIndex}
 use Rattle.base.specs.Counting.{times}
-use Rattle.probing_table.specs.Marks.{cell_at, empty_cell}
+use Rattle.hash_table.specs.Cells.{cell_at, empty_cell}
 use Rattle.probing_table.specs.Probed.{spot, met, rotated}
 use Rattle.probing_table.proofs.Counting.{times_append}
 

@@ -2,16 +2,16 @@
 use Rattle.std.proofs.Common.{◌≡◌, ℕ, ◌+◌, ◌%◌, ◌<◌, ◌≤◌, Bool, true, false, ◌&&◌, eqb, List, [], ◌∷◌, map, length, set, replicate, sym, refl, ap, ◌∙◌, subst, ⊎_elim, mod-lt, arith}
 use Rattle.std.proofs.lemmas.List.{length-set, length-map, length-replicate, get_or-set_same, get_or-set_other, get_or-replicate, get_or-map, get_or_past, nil_from_length}
 use Rattle.std.proofs.lemmas.Bool.{cases_lt, cases_eq, eqb-true, both_ways, and_parts, and_left}
-use Rattle.hash_table.specs.Cells.{pair_of}
+use Rattle.hash_table.specs.Cells.{pair_of, says_occupied, held, holding, cell_at, empty_cell, cell_moved}
 use Rattle.hash_table.specs.declared.index.HashedIndex.{HashedIndex}
 use Rattle.hash_table.specs.declared.index.Mark.{Mark}
 use Rattle.hash_table.specs.declared.index.Mark.TheVariants.{Empty, Occupied, Removed}
 use Rattle.base.specs.Counting.{one, times, Same}
-use Rattle.probing_table.specs.Marks.{says_empty, says_occupied, says_removed, vacant, held, removed, holding, answers, cell_at, empty_cell}
+use Rattle.probing_table.specs.Marks.{says_empty, says_removed, vacant, removed, answers}
 use Rattle.probing_table.specs.Probed.{spot, met, probed, Reached, Laid, LaidBut, Tidied, Sound, Free}
 use Rattle.probing_table.proofs.Counting.{times_set, times_none, times_there, times_le_length}
 use Rattle.probing_table.proofs.Rounds.{spot_lt, spot_same, spot_back, spot_next, spot_alone}
-use Rattle.probing_table.proofs.Listing.{times_probed, length_probed, cell_moved}
+use Rattle.probing_table.proofs.Listing.{times_probed, length_probed}
 
 -- a cell has one mark
 held_not_vacant : (c : HashedIndex) → held c ≡ true → vacant c ≡ false

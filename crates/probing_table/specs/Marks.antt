@@ -1,6 +1,6 @@
 -- Cells by their marks.
-use Rattle.std.specs.Prelude.{ℕ, Bool, true, false, ◌&&◌, List, ◌==◌, slice_index_or}
-use Rattle.hash_table.specs.Cells.{pair_of}
+use Rattle.std.specs.Prelude.{ℕ, Bool, true, false, ◌==◌}
+use Rattle.hash_table.specs.Cells.{holding}
 use Rattle.hash_table.specs.declared.index.HashedIndex.{HashedIndex}
 use Rattle.hash_table.specs.declared.index.Mark.{Mark}
 use Rattle.hash_table.specs.declared.index.Mark.TheVariants.{Empty, Occupied, Removed}
@@ -10,11 +10,6 @@ says_empty Empty = true
 says_empty Occupied = false
 says_empty Removed = false
 
-abbrev pub says_occupied : Mark → Bool
-says_occupied Empty = false
-says_occupied Occupied = true
-says_occupied Removed = false
-
 abbrev pub says_removed : Mark → Bool
 says_removed Empty = false
 says_removed Occupied = false
@@ -23,15 +18,8 @@ says_removed Removed = true
 abbrev pub vacant : HashedIndex → Bool
 vacant c = says_empty c.mark
 
-abbrev pub held : HashedIndex → Bool
-held c = says_occupied c.mark
-
 abbrev pub removed : HashedIndex → Bool
 removed c = says_removed c.mark
-
--- the cell holds a pair that passes the test
-abbrev pub holding : (ℕ × ℕ → Bool) → HashedIndex → Bool
-holding q c = held c && q (pair_of c)
 
 abbrev pub has_hash : ℕ → ℕ × ℕ → Bool
 has_hash h p = p.0 == h
@@ -40,12 +28,5 @@ has_hash h p = p.0 == h
 abbrev pub answers : ℕ → HashedIndex → Bool
 answers h c = holding (has_hash h) c
 
-abbrev pub empty_cell : HashedIndex
-empty_cell = record { hash = 0; slot = 0; mark = Empty }
-
 abbrev pub removed_cell : HashedIndex
 removed_cell = record { hash = 0; slot = 0; mark = Removed }
-
--- the cell at a place: past the last one all are empty
-abbrev pub cell_at : List HashedIndex → ℕ → HashedIndex
-cell_at xs i = slice_index_or xs i empty_cell

@@ -1,11 +1,11 @@
 -- What the cells of a probing table hold, and how they have to lie. There are n cells. The home of a hash is the hash
 -- modulo n: a probe reads from there on, and round.
 use Rattle.std.specs.Prelude.{◌≡◌, ℕ, zero, suc, ◌+◌, ◌-◌, ◌%◌, ◌<◌, ◌≤◌, Bool, true, false, cond, ◌&&◌, List, [], ◌∷◌, ◌++◌, length, take, drop, ◌==◌, ◌≢◌, nat_lt}
-use Rattle.hash_table.specs.Cells.{pair_of}
+use Rattle.hash_table.specs.Cells.{pair_of, held, cell_at}
 use Rattle.hash_table.specs.Pairs.{is_pair}
 use Rattle.hash_table.specs.declared.index.HashedIndex.{HashedIndex}
 use Rattle.base.specs.Counting.{times, Same}
-use Rattle.probing_table.specs.Marks.{vacant, held, removed, answers, cell_at}
+use Rattle.probing_table.specs.Marks.{vacant, removed, answers}
 
 -- the place j steps on from p
 abbrev pub spot : ℕ → ℕ → ℕ → ℕ
@@ -64,7 +64,7 @@ Sound n xs count = Laid n xs × (count ≡ length (probed n xs)) × (count ≤ n
 
 -- every cell has a pair
 abbrev pub Full : ℕ → List HashedIndex → Type 0
-Full n xs = length xs ≡ n → length (probed n xs) ≡ n
+Full n xs = length (probed n xs) ≡ n
 
 -- the first place without a pair on the way of the hash
 abbrev pub Free : ℕ → List HashedIndex → ℕ → ℕ → Type 0
@@ -74,7 +74,7 @@ Free n xs h i =
 
 -- no such pair stands in the table
 abbrev pub Absent : ℕ → List HashedIndex → ℕ → ℕ → Type 0
-Absent n xs h s = Laid n xs → times (is_pair h s) (probed n xs) ≡ 0
+Absent n xs h s = times (is_pair h s) (probed n xs) ≡ 0
 
 -- the place has the pair
 abbrev pub Stands : ℕ → List HashedIndex → ℕ → ℕ → ℕ → Type 0

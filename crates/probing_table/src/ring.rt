@@ -16,15 +16,10 @@ pub(crate) fn home(hash: u64, n: usize) -> usize
 
 // The place j steps on from the start.
 pub(crate) fn spot(start: usize, j: usize, n: usize) -> usize
-    requires { (start < n) × (j < n) }
-    ensures is { result ≡ spot_from n start j }
-    ensures below { result < n }
+    ensures { start ≤ n → result ≡ spot_from n start j }
 {
-    if j < n - start {
-        start + j
-    } else {
-        j - (n - start)
-    }
+    let after = n.saturating_sub(start);
+    if j < after { start + j } else { j - after }
 }
 
 // The next place.

@@ -9,6 +9,7 @@ use hashing::fnv::Fnv1a;
 use item_set::slot::ItemSlot;
 use kinds::currency::Currency;
 use kinds::starter::starter_list;
+use map_tables::parts::{MapParts, Parts};
 use memory::Memory;
 use memory::lent::Lent;
 use model::Found;
@@ -34,10 +35,9 @@ impl fmt::Display for Place {
 
 // Whether both keys found the same record.
 fn same_record(back: &ReadBack<Currency>) -> bool {
-    match (back.first, back.second) {
-        (Some(a), Some(b)) => a.slot == b.slot,
-        _ => false,
-    }
+    back.first
+        .zip(back.second)
+        .is_some_and(|(a, b)| a.slot == b.slot)
 }
 
 // One line of the report.
@@ -61,16 +61,15 @@ fn read_back_all(rt: &impl Print, rows: &[Currency]) -> io::Result<()> {
     let mut slots = [ItemSlot::Vacant(SENTINEL); 16];
     let mut map: BiHashMap<
         Currency,
-        Lent<ItemSlot<Currency>>,
-        ProbingTable<PairBlock>,
-        ProbingTable<PairBlock>,
-        Fnv1a,
+        Parts<Lent<ItemSlot<Currency>>, ProbingTable<PairBlock>, ProbingTable<PairBlock>, Fnv1a>,
     > = BiHashMap::new(
         16,
-        Lent::new(&mut slots),
-        ProbingTable::new(PairBlock::new()),
-        ProbingTable::new(PairBlock::new()),
-        Fnv1a,
+        Parts {
+            memory: Lent::new(&mut slots),
+            first: ProbingTable::new(PairBlock::new()),
+            second: ProbingTable::new(PairBlock::new()),
+            state: Fnv1a,
+        },
     );
     insert_all(&mut map, rows);
     let mut same = 0u32;

@@ -1,19 +1,20 @@
 -- The standing records, slot after slot.
-use Rattle.std.proofs.Common.{◌≡◌, ℕ, ◌+◌, ◌<◌, List, [], ◌∷◌, ◌++◌, length, take, refl, ap, ◌∙◌}
-use Rattle.std.proofs.lemmas.List.{take_more}
-use Rattle.std.specs.Option.{option_to_list}
+use Rattle.std.proofs.Common.{◌≡◌, ℕ, zero, suc, ◌+◌, List, ◌∷◌, length, drop, Option, sym, refl, ap, ◌∙◌, arith}
+use Rattle.std.proofs.lemmas.List.{drop_more, drop_all}
+use Rattle.std.specs.List.{filter_map, range_with_len}
 use Rattle.base.specs.Counting.{sentinel}
 use Rattle.item_set.specs.declared.slot.ItemSlot.{ItemSlot}
 use Rattle.item_set.specs.declared.slot.ItemSlot.TheVariants.{Occupied, Vacant}
 use Rattle.item_set.specs.Slots.{anyone, at, held, shown}
 
 module _ {R : Type 0} where
-  shown_push : (xs : List (ItemSlot R)) (x : ItemSlot R) → shown anyone (xs ++ x ∷ []) ≡ shown anyone xs ++ option_to_list (held x)
-  shown_push [] (Occupied r) = refl
-  shown_push [] (Vacant n) = refl
-  shown_push (Occupied s ∷ xs) x = ap (λ t. s ∷ t) (shown_push xs x)
-  shown_push (Vacant n ∷ xs) x = shown_push xs x
+  shown_first : (h : ℕ → Option R) (i : ℕ) (rest : List ℕ) (x : ItemSlot R) (xs : List (ItemSlot R)) → h i ≡ held x → filter_map h rest ≡ shown anyone xs → filter_map h (i ∷ rest) ≡ shown anyone (x ∷ xs)
+  shown_first h i rest (Occupied r) xs e k = rw e (ap (λ t. r ∷ t) k)
+  shown_first h i rest (Vacant n) xs e k = rw e k
 
-  -- one slot more shows its record, if it holds one
-  pub shown_more : (xs : List (ItemSlot R)) (i : ℕ) → i < length xs → shown anyone (take (i + 1) xs) ≡ shown anyone (take i xs) ++ option_to_list (held (at xs i))
-  shown_more xs i l = ap (shown anyone) (take_more xs i (Vacant sentinel) l) ∙ shown_push (take i xs) (at xs i)
+  -- the slots from a number on show what they hold
+  pub shown_from : (xs : List (ItemSlot R)) (n i : ℕ) → length xs ≡ i + n → filter_map (λ j. held (at xs j)) (range_with_len i n) ≡ shown anyone (drop i xs)
+  shown_from xs zero i e = sym (ap (shown anyone) (drop_all i xs (omega arith)))
+  shown_from xs (suc n) i e =
+      shown_first (λ j. held (at xs j)) i (range_with_len (i + 1) n) (at xs i) (drop (i + 1) xs) refl (shown_from xs n (i + 1) (omega arith))
+      ∙ sym (ap (shown anyone) (drop_more xs i (Vacant sentinel) (omega arith)))

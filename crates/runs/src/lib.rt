@@ -2,7 +2,6 @@
 #![tactic(auto)]
 
 ghost use Rattle.std.specs.Prelude.{◌≡◌, IfOk, OnOk};
-ghost use Rattle.bi_hash_map.specs.Maps.{map_state, Sound};
 ghost use Rattle.item.specs.Kinds.{kind_of};
 ghost use Rattle.item_set.specs.Slots.{anyone, shown};
 ghost use Rattle.model.specs.Answers.{goes};
@@ -13,37 +12,30 @@ ghost use Rattle.traces.specs.Logs.{entry_of, log_of, outcome_of};
 ghost use Rattle.traces.specs.Runs.{entered, respond, run as runs_to, left};
 
 use bi_hash_map::BiHashMap;
-use hash_table::HashTable;
-use hashing::WordHash;
 use item::BiHashItem;
 use item::predicate::Predicate;
-use item_set::slot::ItemSlot;
-use memory::Memory;
+use map_tables::parts::MapParts;
 use std::alloc::{AllocError, Global};
 use traces::{Call, Event, Outcome};
 
 // The standing records, by ascending slot.
-pub fn standing<T: BiHashItem, M: Memory<ItemSlot<T>>, A: HashTable, B: HashTable, H: WordHash>(
-    map: &BiHashMap<T, M, A, B, H>,
+pub fn standing<T: BiHashItem, P: MapParts<T>>(
+    map: &BiHashMap<T, P>,
     heap: Global,
 ) -> Result<Vec<T>, AllocError>
-    ensures { Sound T.BiHashItem T.K1.Key T.K2.Key M.Memory A.HashTable B.HashTable H.WordHash map.now → IfOk result (λ v. v.items ≡ shown anyone (map_state M.Memory map.now).slots) }
+    ensures { IfOk result (λ v. v.items ≡ shown anyone map.now.slots) }
 {
-    let mut items = Vec::new(heap);
-    for slot in 0..map.slots() {
-        if let Some(item) = map.get_slot(slot) {
-            items.push(item)?;
-        }
-    }
-    Ok(items)
+    (0..map.slots())
+        .filter_map(|slot| map.get_slot(slot))
+        .collect(heap)
 }
 
 // A copy of the scratch that a call brings, since a shrink writes to it. Any other call brings an empty one.
-fn brought<T: BiHashItem, P: Predicate<R = T>>(
-    call: &Call<T, T::K1, T::K2, P>,
+fn brought<T: BiHashItem, Q: Predicate<R = T>>(
+    call: &Call<T, T::K1, T::K2, Q>,
     heap: Global,
 ) -> Result<Vec<u32>, AllocError>
-    ensures { IfOk result (λ v. v.items ≡ scratch_of (request_of P.Predicate.keeps call.now)) }
+    ensures { IfOk result (λ v. v.items ≡ scratch_of (request_of Q.Predicate.keeps call.now)) }
 {
     match call {
         Call::Shrink(scratch) => Vec::from_slice(heap, scratch),
@@ -52,20 +44,12 @@ fn brought<T: BiHashItem, P: Predicate<R = T>>(
 }
 
 // Makes a call, on a scratch that holds what the call brings.
-fn make<
-    T: BiHashItem,
-    M: Memory<ItemSlot<T>>,
-    A: HashTable,
-    B: HashTable,
-    H: WordHash,
-    P: Predicate<R = T>,
->(
-    map: &mut BiHashMap<T, M, A, B, H>,
-    call: &Call<T, T::K1, T::K2, P>,
+fn make<T: BiHashItem, P: MapParts<T>, Q: Predicate<R = T>>(
+    map: &mut BiHashMap<T, P>,
+    call: &Call<T, T::K1, T::K2, Q>,
     scratch: &mut [u32],
 ) -> Outcome<T>
-    ensures sound { Sound T.BiHashItem T.K1.Key T.K2.Key M.Memory A.HashTable B.HashTable H.WordHash map.old → Sound T.BiHashItem T.K1.Key T.K2.Key M.Memory A.HashTable B.HashTable H.WordHash map.new }
-    ensures step { Sound T.BiHashItem T.K1.Key T.K2.Key M.Memory A.HashTable B.HashTable H.WordHash map.old → scratch.old ≡ scratch_of (request_of P.Predicate.keeps call.now) → with_scratch scratch.new (goes (map_state M.Memory map.new) (outcome_of result)) ≡ respond (kind_of T.BiHashItem T.K1.Key T.K2.Key) (map_state M.Memory map.old) (request_of P.Predicate.keeps call.now) }
+    ensures { scratch.old ≡ scratch_of (request_of Q.Predicate.keeps call.now) → with_scratch scratch.new (goes map.new (outcome_of result)) ≡ respond (kind_of T.BiHashItem T.K1.Key T.K2.Key) map.old (request_of Q.Predicate.keeps call.now) }
 {
     match call {
         Call::Insert(value) => Outcome::Inserted(map.insert(*value)),
@@ -84,21 +68,13 @@ fn make<
 }
 
 // Makes a call, and notes what it left behind. Where there is no memory for that, the call may have been made.
-pub fn perform<
-    T: BiHashItem,
-    M: Memory<ItemSlot<T>>,
-    A: HashTable,
-    B: HashTable,
-    H: WordHash,
-    P: Predicate<R = T>,
->(
-    map: &mut BiHashMap<T, M, A, B, H>,
-    call: &Call<T, T::K1, T::K2, P>,
+pub fn perform<T: BiHashItem, P: MapParts<T>, Q: Predicate<R = T>>(
+    map: &mut BiHashMap<T, P>,
+    call: &Call<T, T::K1, T::K2, Q>,
     heap: Global,
 ) -> Result<Event<T>, AllocError>
-    ensures sound { Sound T.BiHashItem T.K1.Key T.K2.Key M.Memory A.HashTable B.HashTable H.WordHash map.old → Sound T.BiHashItem T.K1.Key T.K2.Key M.Memory A.HashTable B.HashTable H.WordHash map.new }
-    ensures entry { Sound T.BiHashItem T.K1.Key T.K2.Key M.Memory A.HashTable B.HashTable H.WordHash map.old → IfOk result (λ event. entry_of event ≡ entered (respond (kind_of T.BiHashItem T.K1.Key T.K2.Key) (map_state M.Memory map.old) (request_of P.Predicate.keeps call.now))) }
-    ensures state { Sound T.BiHashItem T.K1.Key T.K2.Key M.Memory A.HashTable B.HashTable H.WordHash map.old → OnOk result (map_state M.Memory map.new ≡ (respond (kind_of T.BiHashItem T.K1.Key T.K2.Key) (map_state M.Memory map.old) (request_of P.Predicate.keeps call.now)).step.after) }
+    ensures entry { IfOk result (λ event. entry_of event ≡ entered (respond (kind_of T.BiHashItem T.K1.Key T.K2.Key) map.old (request_of Q.Predicate.keeps call.now))) }
+    ensures state { OnOk result (map.new ≡ (respond (kind_of T.BiHashItem T.K1.Key T.K2.Key) map.old (request_of Q.Predicate.keeps call.now)).step.after) }
 {
     let mut scratch = brought(call, heap)?;
     let outcome = make(map, call, scratch.as_mut_slice());
@@ -111,21 +87,13 @@ pub fn perform<
 }
 
 // Makes the calls of a trace in order, and answers what each left behind.
-pub fn run<
-    T: BiHashItem,
-    M: Memory<ItemSlot<T>>,
-    A: HashTable,
-    B: HashTable,
-    H: WordHash,
-    P: Predicate<R = T>,
->(
-    map: &mut BiHashMap<T, M, A, B, H>,
-    trace: &[Call<T, T::K1, T::K2, P>],
+pub fn run<T: BiHashItem, P: MapParts<T>, Q: Predicate<R = T>>(
+    map: &mut BiHashMap<T, P>,
+    trace: &[Call<T, T::K1, T::K2, Q>],
     heap: Global,
 ) -> Result<Vec<Event<T>>, AllocError>
-    ensures sound { Sound T.BiHashItem T.K1.Key T.K2.Key M.Memory A.HashTable B.HashTable H.WordHash map.old → Sound T.BiHashItem T.K1.Key T.K2.Key M.Memory A.HashTable B.HashTable H.WordHash map.new }
-    ensures log { Sound T.BiHashItem T.K1.Key T.K2.Key M.Memory A.HashTable B.HashTable H.WordHash map.old → IfOk result (λ events. log_of events.items ≡ runs_to (kind_of T.BiHashItem T.K1.Key T.K2.Key) (map_state M.Memory map.old) (trace_of P.Predicate.keeps trace.now)) }
-    ensures state { Sound T.BiHashItem T.K1.Key T.K2.Key M.Memory A.HashTable B.HashTable H.WordHash map.old → OnOk result (map_state M.Memory map.new ≡ left (kind_of T.BiHashItem T.K1.Key T.K2.Key) (map_state M.Memory map.old) (trace_of P.Predicate.keeps trace.now)) }
+    ensures log { IfOk result (λ events. log_of events.items ≡ runs_to (kind_of T.BiHashItem T.K1.Key T.K2.Key) map.old (trace_of Q.Predicate.keeps trace.now)) }
+    ensures state { OnOk result (map.new ≡ left (kind_of T.BiHashItem T.K1.Key T.K2.Key) map.old (trace_of Q.Predicate.keeps trace.now)) }
 {
     let mut events = Vec::new(heap);
     for call in trace {

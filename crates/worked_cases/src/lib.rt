@@ -13,7 +13,7 @@ use item::{BiHashItem, Key};
 use std::fmt;
 
 // The first key of a pair.
-#[derive(Clone, Copy)]
+#[derive(Clone, Copy, PartialEq, Eq)]
 pub struct First {
     pub number: u8,
 }
@@ -31,17 +31,13 @@ impl Key for First {
 
     ghost alike = { Prim.search rules };
 
-    fn equals(&self, other: &First) -> bool {
-        self.number == other.number
-    }
-
     fn words(&self) -> Words {
         Words::One(u64::from(self.number))
     }
 }
 
 // The second key of a pair.
-#[derive(Clone, Copy)]
+#[derive(Clone, Copy, PartialEq, Eq)]
 pub struct Second {
     pub value: u8,
 }
@@ -58,10 +54,6 @@ impl Key for Second {
     ghost transitive = { Prim.search rules };
 
     ghost alike = { Prim.search rules };
-
-    fn equals(&self, other: &Second) -> bool {
-        self.value == other.value
-    }
 
     fn words(&self) -> Words {
         Words::One(u64::from(self.value))
@@ -83,6 +75,10 @@ impl BiHashItem for Pair {
     ghost first = { first_of };
 
     ghost second = { second_of };
+
+    ghost equality1 = { Prim.search rules };
+
+    ghost equality2 = { Prim.search rules };
 
     fn key1(&self) -> First {
         First { number: self.first }

@@ -8,7 +8,8 @@ use Rattle.traces.proofs.Lawful.{Lawful}
 use Rattle.traces.specs.Runs.{run}
 use Rattle.traces.proofs.Agreeing.{agreed}
 use Rattle.agreement.specs.Inside.{keeps_inside}
-use Rattle.agreement.specs.Rooms.{parts_room, common}
+use Rattle.agreement.specs.Rooms.{common}
+use Rattle.map_tables.specs.Rooms.{parts_room}
 use Rattle.agreement.proofs.Fitting.{fits, common_of, within_first, within_second, within_third, within_most}
 use Rattle.agreement.proofs.agree.Goals as goal
 
@@ -24,11 +25,11 @@ returns g c =
       trans2 = g.met.T.K2.Key.transitive;
     } in
     let wanted = c.args.wanted in
-    let one = parts_room g.M.Memory g.A.HashTable g.B.HashTable c.args.one in
-    let two = parts_room g.N.Memory g.C.HashTable g.D.HashTable c.args.two in
-    let three = parts_room g.O.Memory g.E.HashTable g.F.HashTable c.args.three in
+    let one = parts_room g.P.Memory.Memory g.P.First.HashTable g.P.Second.HashTable (g.P.MapParts.parts c.args.one) in
+    let two = parts_room g.O.Memory.Memory g.O.First.HashTable g.O.Second.HashTable (g.O.MapParts.parts c.args.two) in
+    let three = parts_room g.X.Memory.Memory g.X.First.HashTable g.X.Second.HashTable (g.X.MapParts.parts c.args.three) in
     let capacity = c.common_capacity-capacity.result in
-    let calls = trace_of g.P.Predicate.keeps c.args.trace.now in
+    let calls = trace_of g.Q.Predicate.keeps c.args.trace.now in
     let is : capacity ≡ common wanted one two three = common_of capacity wanted c.common_capacity-capacity.ensures c.room.ensures c.room-2.ensures c.room-3.ensures in
     let most = within_most capacity wanted one two three is in
     record {
@@ -38,8 +39,8 @@ returns g c =
           (c.in_ok-first.ensures ∙ ap (λ n. run kind (fresh n) calls) (fits capacity _ _ _ most (within_first capacity wanted one two three is)))
           (c.in_ok-second.ensures ∙ ap (λ n. run kind (fresh n) calls) (fits capacity _ _ _ most (within_second capacity wanted one two three is)))
           (c.in_ok-crossed.ensures
-          ∙ ap (λ n. run (crossed kind) (fresh n) (trace_of (keeps_inside g.P.Predicate.keeps) c.as_slice.result.now)) (fits capacity _ _ _ most (within_third capacity wanted one two three is))
-          ∙ ap (run (crossed kind) (fresh capacity)) (ap (trace_of (keeps_inside g.P.Predicate.keeps)) c.as_slice.ensures.value ∙ c.in_ok-exchanged.ensures));
+          ∙ ap (λ n. run (crossed kind) (fresh n) (trace_of (keeps_inside g.Q.Predicate.keeps) c.as_slice.result.now)) (fits capacity _ _ _ most (within_third capacity wanted one two three is))
+          ∙ ap (run (crossed kind) (fresh capacity)) (ap (trace_of (keeps_inside g.Q.Predicate.keeps)) c.as_slice.ensures.value ∙ c.in_ok-exchanged.ensures));
     }
 
 -- the exits for want of memory

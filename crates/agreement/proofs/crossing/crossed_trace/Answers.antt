@@ -15,9 +15,9 @@ returns-in_err-push g c = IfOk-from_err c.from_residual-in_err-push.result _ c.f
 
 pub loop-call-preserved : goal.loop-call-preserved
 loop-call-preserved g c =
-    crossed_more g.P.Predicate.keeps c.args.trace.now c.loop-call.call-index c.call-item.result c.loop-call-test.true c.call-item.is
+    crossed_more g.Q.Predicate.keeps c.args.trace.now c.loop-call.call-index c.call-item.result c.loop-call-test.true c.call-item.is
     (vec_items c.loop-call.calls) _ c.in_ok-crossed.field-0 c.in_ok-push.ensures.items c.in_ok-crossed.ensures c.loop-call.invariant
 
 pub returns : goal.returns
 returns g c =
-    c.loop-call.invariant ∙ ap (λ cs. map cross (trace_of g.P.Predicate.keeps cs)) (take_all c.loop-call.call-index c.args.trace.now c.loop-call-test.false)
+    c.loop-call.invariant ∙ ap (λ cs. map cross (trace_of g.Q.Predicate.keeps cs)) (take_all c.loop-call.call-index c.args.trace.now c.loop-call-test.false)

@@ -7,4 +7,4 @@ use Rattle.agreement.proofs.crossing.crossed_trace.Given as goal
 -- the calls so far are crossed
 abbrev pub invariant-loop-call : goal.invariant-loop-call
 invariant-loop-call g l =
-    trace_of (keeps_inside g.P.Predicate.keeps) (vec_items l.calls) ≡ map cross (trace_of g.P.Predicate.keeps (take l.call-index l.trace))
+    trace_of (keeps_inside g.Q.Predicate.keeps) (vec_items l.calls) ≡ map cross (trace_of g.Q.Predicate.keeps (take l.call-index l.trace))

@@ -1,64 +1,64 @@
-use Rattle.std.proofs.Common.{◌≡◌, ℕ, get_or, sym, refl, ap, ◌∙◌}
+use Rattle.std.proofs.Common.{Some}
 use Rattle.item.specs.Kinds.{kind_of}
-use Rattle.item_set.specs.Sets.{meaning}
-use Rattle.item_set.specs.Slots.{at, held}
-use Rattle.item_set.specs.States.{freed}
+use Rattle.item_set.specs.Slots.{at}
 use Rattle.item_set.proofs.Granting.{removing_held}
 use Rattle.item_set.proofs.Holding.{occupied, occupied_within}
 use Rattle.map_tables.specs.Due.{key_hash}
-use Rattle.map_tables.proofs.Indexing.{indexed_freed, never_missing}
-use Rattle.model.specs.declared.Found.{Found}
+use Rattle.map_tables.proofs.Indexing.{indexed_freed}
 use Rattle.model.proofs.Keeping.{well_freed}
-use Rattle.indexed_items.specs.Items.{items_state, prepared, Stands, Sound}
-use Rattle.indexed_items.proofs.Keeping.{sound_by}
+use Rattle.indexed_items.proofs.Keeping.{did, first_hash, not_missing, removing_some, second_hash, sound_by}
 use Rattle.indexed_items.proofs.IndexedItems.remove_duplicate.Goals as goal
 
--- the tables have the pairs of every standing record
-pub returns-in_default-remove_prehashed : goal.returns-in_default-remove_prehashed
-returns-in_default-remove_prehashed g c =
-    let before = items_state g.M.Memory c.args.self.now in
+-- the record that stood in the slot has its pair in both tables
+pair1 : (g : _) (c : goal.After-from_residual-in_err-ok g) → ⊥
+pair1 g c =
+    let state = c.self.inside.tables.state in
+    let before = c.self.inside.items in
     let i = c.args.duplicate.index in
-    let no : (f : Found g.row.T.Denot) → Sound g.T.BiHashItem g.T.K1.Key g.T.K2.Key g.M.Memory g.A.HashTable g.B.HashTable g.H.WordHash c.args.self.now → Stands before f → c.args.duplicate ≡ prepared g.T.BiHashItem g.T.K1.Key g.T.K2.Key g.H.WordHash c.args.self.now.tables.state f → ⊥ =
-    λ f s h e.
-    let o = occupied (at before.slots i) f.item (ap (λ (n : ℕ). held (at before.slots n)) (ap (λ d. d.index) e) ∙ h) in
-    never_missing g.A.HashTable (key_hash g.H.WordHash c.args.self.now.tables.state g.T.K1.Key g.T.BiHashItem.first) before c.args.self.now.tables.k1_to_item.items
-    f.item _ i c.in_default-remove_prehashed.field-0 (occupied_within before.slots i f.item o) o s.first (ap (λ d. get_or d.hashes 0 0) e)
-    (c.in_default-remove_prehashed.ensures.code s.first.ok) in
-    record { hasher = refl; sound = λ f s h e. absurd (no f s h e); state = λ f s h e. absurd (no f s h e) }
+    let x = c.in_ok-removed.removed in
+    let there = removing_some before c.remove.new.self i x c.in_ok-removed.ensures.step in
+    not_missing c.remove_prehashed.result g.P.First.HashTable (key_hash g.P.Hasher.WordHash state g.T.K1.Key g.T.BiHashItem.first)
+    before c.remove.new.self c.self.inside.tables.k1_to_item.items c.self.invariant.first
+    x _ i c.in_ok-removed.ensures.step (first_hash g.T.BiHashItem g.T.K1.Key g.T.K2.Key g.P.Hasher.WordHash state x c.args.duplicate.hashes ((rw (← c.self.view_is) at c.requires) x there)) c.in_err-ok.ensures.value c.remove_prehashed.ensures.code
 
-pub returns-in_default-remove_prehashed-2 : goal.returns-in_default-remove_prehashed-2
-returns-in_default-remove_prehashed-2 g c =
-    let before = items_state g.M.Memory c.args.self.now in
+pub invariant_of-self-in_err-ok : goal.invariant_of-self-in_err-ok
+invariant_of-self-in_err-ok g c = absurd (pair1 g c)
+
+pub returns-in_err-ok-clause-step : goal.returns-in_err-ok-clause-step
+returns-in_err-ok-clause-step g c = absurd (pair1 g c)
+
+pair2 : (g : _) (c : goal.After-from_residual-in_err-ok-2 g) → ⊥
+pair2 g c =
+    let state = c.self.inside.tables.state in
+    let before = c.self.inside.items in
     let i = c.args.duplicate.index in
-    let no : (f : Found g.row.T.Denot) → Sound g.T.BiHashItem g.T.K1.Key g.T.K2.Key g.M.Memory g.A.HashTable g.B.HashTable g.H.WordHash c.args.self.now → Stands before f → c.args.duplicate ≡ prepared g.T.BiHashItem g.T.K1.Key g.T.K2.Key g.H.WordHash c.args.self.now.tables.state f → ⊥ =
-    λ f s h e.
-    let o = occupied (at before.slots i) f.item (ap (λ (n : ℕ). held (at before.slots n)) (ap (λ d. d.index) e) ∙ h) in
-    never_missing g.B.HashTable (key_hash g.H.WordHash c.args.self.now.tables.state g.T.K2.Key g.T.BiHashItem.second) before c.args.self.now.tables.k2_to_item.items
-    f.item _ i c.in_default-remove_prehashed-2.field-0 (occupied_within before.slots i f.item o) o s.second (ap (λ d. get_or d.hashes 1 0) e)
-    (c.in_default-remove_prehashed-2.ensures.code s.second.ok) in
-    record { hasher = refl; sound = λ f s h e. absurd (no f s h e); state = λ f s h e. absurd (no f s h e) }
+    let x = c.in_ok-removed.removed in
+    let there = removing_some before c.remove.new.self i x c.in_ok-removed.ensures.step in
+    not_missing c.remove_prehashed-2.result g.P.Second.HashTable (key_hash g.P.Hasher.WordHash state g.T.K2.Key g.T.BiHashItem.second)
+    before c.remove.new.self c.self.inside.tables.k2_to_item.items c.self.invariant.second
+    x _ i c.in_ok-removed.ensures.step (second_hash g.T.BiHashItem g.T.K1.Key g.T.K2.Key g.P.Hasher.WordHash state x c.args.duplicate.hashes ((rw (← c.self.view_is) at c.requires) x there)) c.in_err-ok-2.ensures.value c.remove_prehashed-2.ensures.code
 
-pub returns : goal.returns
-returns g c =
+pub invariant_of-self-in_err-ok-2 : goal.invariant_of-self-in_err-ok-2
+invariant_of-self-in_err-ok-2 g c = absurd (pair2 g c)
+
+pub returns-in_err-ok-2-clause-step : goal.returns-in_err-ok-2-clause-step
+returns-in_err-ok-2-clause-step g c = absurd (pair2 g c)
+
+pub invariant_of-self-2 : goal.invariant_of-self-2
+invariant_of-self-2 g c =
     let kind = kind_of g.T.BiHashItem g.T.K1.Key g.T.K2.Key in
-    let state = c.args.self.now.tables.state in
-    let before = items_state g.M.Memory c.args.self.now in
+    let state = c.self.inside.tables.state in
+    let before = c.self.inside.items in
     let i = c.args.duplicate.index in
-    record {
-      hasher = refl;
-      sound = λ f s h e.
-          let there = ap (λ (n : ℕ). held (at before.slots n)) (ap (λ d. d.index) e) ∙ h in
-          let o = occupied (at before.slots i) f.item there in
-          let l = occupied_within before.slots i f.item o in
-          let gone = removing_held before (meaning g.M.Memory c.remove.new.self) i f.item _ there (c.remove.ensures.step s.ready) in
-          sound_by g.T.BiHashItem g.T.K1.Key g.T.K2.Key g.M.Memory g.A.HashTable g.B.HashTable g.H.WordHash
-          c.remove.new.self _ _ gone.1 (c.remove.ensures.ready s.ready) (well_freed kind before i f.item l o s.well)
-          (indexed_freed g.A.HashTable (key_hash g.H.WordHash state g.T.K1.Key g.T.BiHashItem.first) before _ _ f.item _ i l o s.first (ap (λ d. get_or d.hashes 0 0) e)
-          (c.remove_prehashed.ensures.ok s.first.ok) c.remove_prehashed.ensures.room (c.in-Ok.ensures.pairs s.first.ok))
-          (indexed_freed g.B.HashTable (key_hash g.H.WordHash state g.T.K2.Key g.T.BiHashItem.second) before _ _ f.item _ i l o s.second (ap (λ d. get_or d.hashes 1 0) e)
-          (c.remove_prehashed-2.ensures.ok s.second.ok) c.remove_prehashed-2.ensures.room (c.in-Ok-remove_prehashed.ensures.pairs s.second.ok));
-      state = λ f s h e.
-          let there = ap (λ (n : ℕ). held (at before.slots n)) (ap (λ d. d.index) e) ∙ h in
-          let gone = removing_held before (meaning g.M.Memory c.remove.new.self) i f.item _ there (c.remove.ensures.step s.ready) in
-          (sym c.in-Some.is ∙ gone.0, gone.1 ∙ ap (freed before) (ap (λ d. d.index) e));
-    }
+    let x = c.in_ok-removed.removed in
+    let s = c.self.invariant in
+    let there = removing_some before c.remove.new.self i x c.in_ok-removed.ensures.step in
+    let e = (rw (← c.self.view_is) at c.requires) x there in
+    let o = occupied (at before.slots i) x there in
+    let l = occupied_within before.slots i x o in
+    sound_by g.T.BiHashItem g.T.K1.Key g.T.K2.Key g.P.Hasher.WordHash g.P.First.HashTable g.P.Second.HashTable
+    c.remove.new.self _ _ (removing_held before c.remove.new.self i x (Some x) there c.in_ok-removed.ensures.step).1 (well_freed kind before i x l o s.well)
+    (indexed_freed g.P.First.HashTable (key_hash g.P.Hasher.WordHash state g.T.K1.Key g.T.BiHashItem.first) before c.self.inside.tables.k1_to_item.items c.remove_prehashed.new.self.items x _ i l o s.first (first_hash g.T.BiHashItem g.T.K1.Key g.T.K2.Key g.P.Hasher.WordHash state x c.args.duplicate.hashes e)
+    c.remove_prehashed.ensures.room (did c.remove_prehashed.result _ _ _ c.in_ok-ok.ensures.value c.remove_prehashed.ensures.pairs))
+    (indexed_freed g.P.Second.HashTable (key_hash g.P.Hasher.WordHash state g.T.K2.Key g.T.BiHashItem.second) before c.self.inside.tables.k2_to_item.items c.remove_prehashed-2.new.self.items x _ i l o s.second (second_hash g.T.BiHashItem g.T.K1.Key g.T.K2.Key g.P.Hasher.WordHash state x c.args.duplicate.hashes e)
+    c.remove_prehashed-2.ensures.room (did c.remove_prehashed-2.result _ _ _ c.in_ok-ok-2.ensures.value c.remove_prehashed-2.ensures.pairs))

@@ -4,5 +4,4 @@ use Rattle.map_tables.proofs.MapHashTable.find_index.Given as goal
 
 abbrev pub invariant-loop-k : goal.invariant-loop-k
 invariant-loop-k g l =
-    g.A.HashTable.ok l.self.items
-    → Passed (has g.S.Side.part g.S.K.Key.same l.key) (g.M.Memory.items l.items.items) (g.A.HashTable.pairs l.self.items) l.hash l.k
+    Passed (has g.S.Side.part g.S.K.Key.same l.key) l.items.slots (g.A.HashTable.pairs l.self.items) l.hash l.k

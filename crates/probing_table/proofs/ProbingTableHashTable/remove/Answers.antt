@@ -1,51 +1,20 @@
-use Rattle.std.proofs.Common.{◌-◌, refl, ap, ◌∙◌}
-use Rattle.hash_table.proofs.Answering.{removing_one, removing_none}
-use Rattle.probing_table.specs.Probed.{probed}
-use Rattle.probing_table.proofs.Calls.{taken}
+use Rattle.hash_table.proofs.Answering.{removing_one}
+use Rattle.probing_table.proofs.Calls.{emptied, taken}
 use Rattle.probing_table.proofs.ProbingTableHashTable.remove.Goals as goal
 
-pub returns-in_default : goal.returns-in_default
-returns-in_default g c =
-    let t = c.args.self.now in
-    record {
-      room = refl;
-      ok = λ ok. ok;
-      code = λ ok. removing_none (probed (g.M.Memory.room t.memory) (g.M.Memory.items t.memory)) c.args.hash c.args.slot (c.in_default.ensures ok.0);
-      pairs = λ ok. refl;
-    }
+pub tidy-requires-clause-laid : goal.tidy-requires-clause-laid
+tidy-requires-clause-laid g c = emptied _ _ _ _ _ _ _ _ c.put.ensures.room c.put.ensures.items (rw c.in_ok-place.ensures.ok_part at c.place_of.ensures) c.self.invariant
 
-pub returns : goal.returns
-returns g c =
-    let t = c.args.self.now in
-    let n = g.M.Memory.room t.memory in
-    let xs = g.M.Memory.items t.memory in
-    let n' = g.M.Memory.room c.tidy.new.memory in
-    let zs = g.M.Memory.items c.tidy.new.memory in
-    let h = c.args.hash in
-    let s = c.args.slot in
-    let left =
-    taken
-    n
-    n'
-    xs
-    t.count
-    h
-    s
-    c.in-Some.place
-    (g.M.Memory.room c.put.new.memory)
-    c.saturating_sub-self.result
-    (g.M.Memory.items c.put.new.memory)
-    zs
-    c.put.ensures.room
-    c.tidy.ensures.room
-    c.put.ensures.items
-    c.tidy.ensures.tidied
-    c.in-Some.ensures
-    c.saturating_sub-self.ensures
-    in
-    record {
-      room = ap (λ k. k - 1) (c.tidy.ensures.room ∙ c.put.ensures.room);
-      ok = λ ok. (left ok).0;
-      code = λ ok. removing_one (probed n xs) h s (probed n' zs) (left ok).1;
-      pairs = λ ok. (left ok).1;
-    }
+pub invariant_of-self : goal.invariant_of-self
+invariant_of-self g c =
+    (taken _ _ _ _ _ _ _ _ _ _ _ c.put.ensures.room c.tidy.ensures.room c.put.ensures.items c.tidy.ensures.tidied (rw c.in_ok-place.ensures.ok_part at c.place_of.ensures) c.saturating_sub-self-inside.ensures c.self.invariant).0
+
+pub returns-clause-code : goal.returns-clause-code
+returns-clause-code g c =
+    rw (← c.self.view_is)
+    (removing_one _ c.args.hash c.args.slot _ (taken _ _ _ _ _ _ _ _ _ _ _ c.put.ensures.room c.tidy.ensures.room c.put.ensures.items c.tidy.ensures.tidied (rw c.in_ok-place.ensures.ok_part at c.place_of.ensures) c.saturating_sub-self-inside.ensures c.self.invariant).1)
+
+pub returns-clause-pairs : goal.returns-clause-pairs
+returns-clause-pairs g c =
+    rw (← c.self.view_is)
+    (taken _ _ _ _ _ _ _ _ _ _ _ c.put.ensures.room c.tidy.ensures.room c.put.ensures.items c.tidy.ensures.tidied (rw c.in_ok-place.ensures.ok_part at c.place_of.ensures) c.saturating_sub-self-inside.ensures c.self.invariant).1

@@ -1,5 +1,5 @@
 use Rattle.std.proofs.Common.{replicate, ap, ◌∙◌, arith}
-use Rattle.probing_table.specs.Marks.{empty_cell}
+use Rattle.hash_table.specs.Cells.{empty_cell}
 use Rattle.probing_table.proofs.Stored.{pushed}
 use Rattle.probing_table.proofs.cells.fill.Goals as goal
 
