@@ -15,10 +15,6 @@ impl<T: BiHashItem> BiHashItem for Crossed<T> {
 
     ghost second = { λ item. T.BiHashItem.first item.inner };
 
-    ghost equality1 = { T.BiHashItem.equality2 };
-
-    ghost equality2 = { T.BiHashItem.equality1 };
-
     fn key1(&self) -> T::K2 {
         self.inner.key2()
     }

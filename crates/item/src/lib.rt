@@ -17,6 +17,9 @@ pub trait Key: Copy {
 
     ghost words: { Self → Hashed };
 
+    fn equals(&self, other: &Self) -> bool
+        ensures { result ≡ same self.now other.now };
+
     fn words(&self) -> Words
         ensures { result ≡ words self.now };
 
@@ -29,11 +32,11 @@ pub trait Key: Copy {
     ghost alike: { (a b : Self) → same a b ≡ true → words a ≡ words b };
 }
 
-// A kind of record, with its own two kinds of key. Keys are compared by `==`, which holds exactly where the keys are equal.
+// A kind of record, with its own two kinds of key.
 pub trait BiHashItem: Copy {
-    type K1: Key + Eq;
+    type K1: Key;
 
-    type K2: Key + Eq;
+    type K2: Key;
 
     ghost first: { Self → Self.K1 };
 
@@ -44,8 +47,4 @@ pub trait BiHashItem: Copy {
 
     fn key2(&self) -> Self::K2
         ensures { result ≡ second self.now };
-
-    ghost equality1: { (a b : Self.K1) → Self.K1.eq a b ≡ Self.K1.same a b };
-
-    ghost equality2: { (a b : Self.K2) → Self.K2.eq a b ≡ Self.K2.same a b };
 }

@@ -7,14 +7,12 @@ use std::marker::PhantomData;
 pub trait Side {
     type R: Copy;
 
-    type K: Key + Eq;
+    type K: Key;
 
     ghost part: { Self.R → Self.K };
 
     fn part(one: &Self::R) -> Self::K
         ensures { result ≡ part one.now };
-
-    ghost equality: { (a b : Self.K) → Self.K.eq a b ≡ Self.K.same a b };
 }
 
 pub struct First<T: BiHashItem> {
@@ -27,8 +25,6 @@ impl<T: BiHashItem> Side for First<T> {
     type K = T::K1;
 
     ghost part = { T.BiHashItem.first };
-
-    ghost equality = { T.BiHashItem.equality1 };
 
     fn part(one: &T) -> T::K1 {
         one.key1()
@@ -45,8 +41,6 @@ impl<T: BiHashItem> Side for Second<T> {
     type K = T::K2;
 
     ghost part = { T.BiHashItem.second };
-
-    ghost equality = { T.BiHashItem.equality2 };
 
     fn part(one: &T) -> T::K2 {
         one.key2()

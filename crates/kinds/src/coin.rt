@@ -30,6 +30,10 @@ impl Key for Signature {
 
     ghost alike = { Prim.search rules };
 
+    fn equals(&self, other: &Signature) -> bool {
+        *self == *other
+    }
+
     // A word for each part, so that different signatures give different words.
     fn words(&self) -> Words {
         Words::Three(
@@ -59,6 +63,10 @@ impl Key for Channel {
 
     ghost alike = { Prim.search rules };
 
+    fn equals(&self, other: &Channel) -> bool {
+        *self == *other
+    }
+
     fn words(&self) -> Words {
         Words::One(u64::from(self.number))
     }
@@ -83,10 +91,6 @@ impl BiHashItem for Coin {
 
     ghost second = { channel_of };
 
-    ghost equality1 = { Prim.search rules };
-
-    ghost equality2 = { Prim.search rules };
-
     fn key1(&self) -> Signature {
         Signature {
             currency: self.currency,
@@ -105,9 +109,9 @@ impl BiHashItem for Coin {
 impl Comparable for Coin {
     ghost alike = { alike_coins };
 
-    ghost equality = { Prim.search rules };
-
-    ghost keys = { Prim.search rules };
+    fn is_alike(&self, other: &Coin) -> bool {
+        *self == *other
+    }
 }
 
 // Keeps the coins of one currency, by its number.

@@ -28,6 +28,10 @@ impl Key for Letters {
 
     ghost alike = { Prim.search rules };
 
+    fn equals(&self, other: &Letters) -> bool {
+        *self == *other
+    }
+
     // The letters fit one word side by side, so that different letters give different words.
     fn words(&self) -> Words {
         let [a, b, c] = self.bytes;
@@ -54,6 +58,10 @@ impl Key for Number {
 
     ghost alike = { Prim.search rules };
 
+    fn equals(&self, other: &Number) -> bool {
+        *self == *other
+    }
+
     fn words(&self) -> Words {
         Words::One(u64::from(self.value))
     }
@@ -76,10 +84,6 @@ impl BiHashItem for Currency {
 
     ghost second = { number_of };
 
-    ghost equality1 = { Prim.search rules };
-
-    ghost equality2 = { Prim.search rules };
-
     fn key1(&self) -> Letters {
         self.letters
     }
@@ -92,7 +96,7 @@ impl BiHashItem for Currency {
 impl Comparable for Currency {
     ghost alike = { alike_currencies };
 
-    ghost equality = { Prim.search rules };
-
-    ghost keys = { Prim.search rules };
+    fn is_alike(&self, other: &Currency) -> bool {
+        *self == *other
+    }
 }

@@ -12,7 +12,7 @@ use map_tables::parts::MapParts;
 fn has_like<T: Comparable, P: MapParts<T>>(items: &IndexedItems<T, P>, item: &T) -> bool
     ensures { result ≡ meets (kind_of T.BiHashItem T.K1.Key T.K2.Key) T.Comparable.alike items.now.records item.now }
 {
-    find_unique(items, &item.key1(), &item.key2()).is_some_and(|found| *item == found.item)
+    find_unique(items, &item.key1(), &item.key2()).is_some_and(|found| item.is_alike(&found.item))
 }
 
 // Whether as many records stand in the second, and each of the first meets one like it there. The parts may differ.

@@ -4,7 +4,7 @@ ghost use Rattle.item.specs.Kinds.{kind_of};
 ghost use Rattle.model.specs.Model.{find, both, has1, has2};
 
 use indexed_items::IndexedItems;
-use item::BiHashItem;
+use item::{BiHashItem, Key};
 use map_tables::parts::MapParts;
 use model::Found;
 
@@ -16,5 +16,7 @@ pub fn find_unique<T: BiHashItem, P: MapParts<T>>(
 ) -> Option<Found<T>>
     ensures { result ≡ find (both (has1 (kind_of T.BiHashItem T.K1.Key T.K2.Key) key1.now) (has2 (kind_of T.BiHashItem T.K1.Key T.K2.Key) key2.now)) 0 items.now.records.slots }
 {
-    items.find1(key1).filter(|found| *key2 == found.item.key2())
+    items
+        .find1(key1)
+        .filter(|found| key2.equals(&found.item.key2()))
 }

@@ -61,7 +61,7 @@ impl<A: HashTable> MapHashTable<A> {
         for k in 0..self.items.len() {
             let slot = self.items.candidate(hash, k)?;
             if let Some(item) = items.get(slot) {
-                if *key == S::part(&item) {
+                if key.equals(&S::part(&item)) {
                     return Some(Found { slot, item });
                 }
             }

@@ -31,6 +31,10 @@ impl Key for First {
 
     ghost alike = { Prim.search rules };
 
+    fn equals(&self, other: &First) -> bool {
+        *self == *other
+    }
+
     fn words(&self) -> Words {
         Words::One(u64::from(self.number))
     }
@@ -55,6 +59,10 @@ impl Key for Second {
 
     ghost alike = { Prim.search rules };
 
+    fn equals(&self, other: &Second) -> bool {
+        *self == *other
+    }
+
     fn words(&self) -> Words {
         Words::One(u64::from(self.value))
     }
@@ -75,10 +83,6 @@ impl BiHashItem for Pair {
     ghost first = { first_of };
 
     ghost second = { second_of };
-
-    ghost equality1 = { Prim.search rules };
-
-    ghost equality2 = { Prim.search rules };
 
     fn key1(&self) -> First {
         First { number: self.first }
