@@ -24,6 +24,7 @@ use std::alloc::{AllocError, Global};
 use traces::{Call, Event};
 
 pub mod crossing;
+pub mod parts;
 
 use crossing::crossed_trace;
 

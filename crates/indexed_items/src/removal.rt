@@ -42,7 +42,8 @@ impl<T: BiHashItem, P: MapParts<T>> IndexedItems<T, P> {
 
     // Takes the record out of a slot. None, and nothing done, where none stands there.
     pub fn remove(&mut self, slot: u32) -> Option<T>
-        ensures { (result, self.new.records) ≡ removing self.old.records slot }
+        ensures hasher { self.new.hasher ≡ self.old.hasher }
+        ensures step { (result, self.new.records) ≡ removing self.old.records slot }
     {
         let item = self.get(slot)?;
         let duplicate = self.prepare_duplicate(&Found { slot, item });

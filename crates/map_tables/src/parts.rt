@@ -1,5 +1,6 @@
 // What a map is made of.
 ghost use Rattle.std.specs.Prelude.{◌≡◌};
+ghost use Rattle.map_tables.specs.Rooms.{parts_room};
 
 use hash_table::HashTable;
 use hashing::WordHash;
@@ -16,6 +17,18 @@ pub struct Parts<M, A, B, H> {
     pub state: H,
 }
 
+// How many records the parts have room for.
+pub fn room<T: BiHashItem, M: Memory<ItemSlot<T>>, A: HashTable, B: HashTable, H>(
+    parts: &Parts<M, A, B, H>,
+) -> usize
+    ensures { result ≡ parts_room M.Memory A.HashTable B.HashTable parts.now }
+{
+    parts
+        .memory
+        .capacity()
+        .min(parts.first.capacity().min(parts.second.capacity()))
+}
+
 // The kinds of the four parts under one name, so that what is said of a map of any parts names one kind in place of four.
 pub trait MapParts<T: BiHashItem> {
     type Memory: Memory<ItemSlot<T>>;
@@ -27,7 +40,6 @@ pub trait MapParts<T: BiHashItem> {
     type Hasher: WordHash;
 
     ghost use Rattle.map_tables.specs.declared.parts.Parts.{Parts};
-    ghost use Rattle.map_tables.specs.Rooms.{parts_room};
 
     ghost parts: { Self → Parts Self.Memory Self.First Self.Second Self.Hasher };
 
@@ -56,8 +68,6 @@ impl<T: BiHashItem, M: Memory<ItemSlot<T>>, A: HashTable, B: HashTable, H: WordH
     }
 
     fn room(&self) -> usize {
-        self.memory
-            .capacity()
-            .min(self.first.capacity().min(self.second.capacity()))
+        room(self)
     }
 }
