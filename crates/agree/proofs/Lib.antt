@@ -2,4 +2,5 @@ mod Counted
 mod Equality
 mod Likely
 mod Numbers
+mod Words
 mod Written

@@ -117,6 +117,13 @@ named name (w ∷ []) = one_said name w
 named name (v ∷ w ∷ []) = two_said name v w
 named name (u ∷ v ∷ w ∷ ws) = None
 
+-- the words that three calls gave, up to the first that gave none
+abbrev pub behind : Option (Bor (List ℕ)) → Option (Bor (List ℕ)) → Option (Bor (List ℕ)) → List (List ℕ)
+behind None b c = []
+behind (Some u) None c = u.now ∷ []
+behind (Some u) (Some v) None = u.now ∷ v.now ∷ []
+behind (Some u) (Some v) (Some w) = u.now ∷ v.now ∷ w.now ∷ []
+
 -- what was said, or what was expected
 abbrev pub or_expected : List ℕ → Option Said → Result Said Form
 or_expected name (Some s) = Ok s

@@ -1,5 +1,5 @@
 // A trace as text, one call to a line: a name and its numbers. A line with nothing on it, or a remark behind '#', is no call.
-ghost use Rattle.agree.specs.Reading.{number, request_said, pair_said, key_said, said_of, one_said, two_said, named, texts, expected, form_text, read_words, Reads, ReadsLine};
+ghost use Rattle.agree.specs.Reading.{number, request_said, pair_said, key_said, said_of, one_said, two_said, is_remark as begins_remark, named, behind, or_expected, expected, form_text, Reads, ReadsLine};
 ghost use Rattle.agree.specs.declared.reading.ReadError.TheVariants.{OutOfMemory};
 ghost use Rattle.std.specs.Prelude.{◌≡◌, IfOk, Some, option_map};
 
@@ -139,37 +139,59 @@ fn read_two(name: &str, first: &str, second: &str) -> Option<Line>
     call_of_pair(name, Pair { first, second }).map(Line::Call)
 }
 
-// A line by its name and the words behind that, if it says anything.
-fn read_named(name: &str, words: &[&str], heap: Global) -> Result<Option<Line>, AllocError>
-    ensures { IfOk result (λ line. option_map said_of line ≡ named name.now (texts words.now)) }
+// A line by its name and the words behind that, if it says anything: a third word is one too many.
+fn read_named(
+    name: &str,
+    first: Option<&str>,
+    second: Option<&str>,
+    third: Option<&str>,
+    heap: Global,
+) -> Result<Option<Line>, AllocError>
+    ensures { IfOk result (λ line. option_map said_of line ≡ named name.now (behind first.entry second.entry third.entry)) }
 {
-    match *words {
-        [] if name == "len" => Ok(Some(Line::Call(Call::Len))),
-        [word] => read_one(name, word, heap),
-        [first, second] => Ok(read_two(name, first, second)),
+    match (first, second, third) {
+        (None, _, _) if name == "len" => Ok(Some(Line::Call(Call::Len))),
+        (Some(word), None, _) => read_one(name, word, heap),
+        (Some(first), Some(second), None) => Ok(read_two(name, first, second)),
         _ => Ok(None),
     }
 }
 
-// A line by its words.
-fn read_words(words: &[&str], heap: Global) -> Result<Line, ReadError>
-    ensures { Reads result (read_words (texts words.now)) }
+// What a line with a name says, or what it would have behind the name.
+fn read_behind(
+    name: &str,
+    first: Option<&str>,
+    second: Option<&str>,
+    third: Option<&str>,
+    heap: Global,
+) -> Result<Line, ReadError>
+    ensures { Reads result (or_expected name.now (named name.now (behind first.entry second.entry third.entry))) }
 {
-    match *words {
-        [] => Ok(Line::Blank),
-        [name, ref rest @ ..] => {
-            if name.starts_with('#') {
-                return Ok(Line::Blank);
-            }
-            read_named(name, rest, heap)?.ok_or_else(|| ReadError::Expected(expected(name)))
-        }
-    }
+    read_named(name, first, second, third, heap)?.ok_or_else(|| ReadError::Expected(expected(name)))
 }
 
-// Reads one line.
+// Whether a word begins a remark.
+#[tactic(auto, using(crate::proofs::Words::remark_byte))]
+fn is_remark(word: &str) -> bool
+    ensures { result ≡ begins_remark word.now }
+{
+    word.starts_with('#')
+}
+
+// Reads one line. No more of it is looked at than a name and three words, and nothing behind the sign of a remark, however long it
+// is.
 pub fn read_line(text: &str, heap: Global) -> Result<Line, ReadError>
     ensures { ReadsLine text.now result }
 {
-    let words: Vec<&str> = text.split_whitespace().collect(heap)?;
-    read_words(words.as_slice(), heap)
+    let mut words = text.split_whitespace();
+    let Some(name) = words.next() else {
+        return Ok(Line::Blank);
+    };
+    if is_remark(name) {
+        return Ok(Line::Blank);
+    }
+    let first = words.next();
+    let second = words.next();
+    let third = words.next();
+    read_behind(name, first, second, third, heap)
 }
