@@ -1,11 +1,11 @@
 -- The pairs of a memory's cells, after the memory's calls.
-use Rattle.std.proofs.Common.{◌≡◌, ℕ, suc, ◌+◌, ◌<◌, Bool, true, false, cond, eqb, List, [], ◌∷◌, map, length, get_or, take, set, Result, not, ◌&&◌, sym, refl, ap, ◌∙◌, subst, arith, Some, None, Option, MatchOption, MatchResult, ◌≤◌}
+use Rattle.std.proofs.Common.{◌≡◌, ℕ, suc, ◌+◌, ◌<◌, Bool, true, false, eqb, List, [], ◌∷◌, map, length, get_or, take, set, Result, not, ◌&&◌, sym, refl, ap, ◌∙◌, subst, arith, Some, None, Option, MatchOption, MatchResult, ◌≤◌}
 use Rattle.std.proofs.lemmas.List.{length-map, get_or_default, get_or-map, map_push, map-set, take-map}
 use Rattle.std.proofs.lemmas.Bool.{eqb-true, ne_eqb, and_parts}
 use Rattle.std.proofs.lemmas.List.Folds.{list_all-map}
 use Rattle.std.proofs.lemmas.List.FromFn.{fill_by_all}
 use Rattle.std.proofs.lemmas.Result.{MatchResult-weaker}
-use Rattle.std.specs.List.{list_all, range_with_len, slice_get, filter}
+use Rattle.std.specs.List.{list_all, range_with_len}
 use Rattle.std.specs.Option.{option_map}
 use Rattle.memory.specs.declared.StorageRefusal.{StorageRefusal}
 use Rattle.memory.specs.Refusals.{code}
@@ -14,7 +14,7 @@ use Rattle.memory.proofs.Storing.{push_cases}
 use Rattle.base.specs.Counting.{one, times, Same}
 use Rattle.base.proofs.Counts.{same_push, same_swap_out}
 use Rattle.hash_table.specs.Cells.{pair_of, pairs_of, Stands, empty_cell, cell_at}
-use Rattle.hash_table.specs.Pairs.{slots_of, candidate, is_pair}
+use Rattle.hash_table.specs.Pairs.{is_pair}
 use Rattle.hash_table.specs.declared.index.HashedIndex.{HashedIndex}
 
 length_pairs : (xs : List HashedIndex) → length (pairs_of xs) ≡ length xs
@@ -43,22 +43,6 @@ none_of_cells q xs n e =
     sym (list_all-map (λ x. not (q x)) (cell_at xs) (range_with_len 0 n))
     ∙ ap (list_all (λ x. not (q x))) (cells_read xs n e)
     ∙ none_counted q xs
-
--- the slots of a hash are those of the cells with it
-slots_of_cells : (h : ℕ) (xs : List HashedIndex) → map (λ x. x.slot) (filter (λ x. eqb x.hash h) xs) ≡ slots_of h (pairs_of xs)
-slots_of_cells h [] = refl
-slots_of_cells h (x ∷ xs) = by (eqb x.hash h) (slots_of_cells h xs)
-  where
-    by : (b : Bool) → map (λ x. x.slot) (filter (λ x. eqb x.hash h) xs) ≡ slots_of h (pairs_of xs)
-        → map (λ x. x.slot) (cond b (x ∷ filter (λ x. eqb x.hash h) xs) (filter (λ x. eqb x.hash h) xs)) ≡ cond b (x.slot ∷ slots_of h (pairs_of xs)) (slots_of h (pairs_of xs))
-    by true r = ap (λ l. x.slot ∷ l) r
-    by false r = r
-
-pub candidate_of_cells : (h k : ℕ) (xs : List HashedIndex) (n : ℕ) → n ≡ length xs
-    → slice_get (map (λ x. x.slot) (filter (λ x. eqb x.hash h) (map (cell_at xs) (range_with_len 0 n)))) k ≡ candidate (pairs_of xs) h k
-candidate_of_cells h k xs n e =
-    ap (λ l. slice_get (map (λ x. x.slot) (filter (λ x. eqb x.hash h) l)) k) (cells_read xs n e)
-    ∙ ap (λ l. slice_get l k) (slots_of_cells h xs)
 
 none_at : (h s : ℕ) (xs : List HashedIndex) → ((i : ℕ) → i < length xs → is_pair h s (pair_of (cell_at xs i)) ≡ false) → times (is_pair h s) (pairs_of xs) ≡ 0
 none_at h s [] e = refl

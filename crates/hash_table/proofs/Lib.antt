@@ -1,3 +1,4 @@
 pub mod Answering
 pub mod Celled
 pub mod Moving
+pub mod Walking

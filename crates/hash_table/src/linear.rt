@@ -51,11 +51,18 @@ fn place_of<M: Memory<HashedIndex>>(memory: &M, hash: u64, slot: u32) -> Option<
 fn candidate_in<M: Memory<HashedIndex>>(memory: &M, hash: u64, k: usize) -> Option<u32>
     ensures { result ≡ candidate_of (pairs_of (M.Memory.items memory.now)) hash k }
 {
-    (0..memory.len())
-        .map(|i| at(memory, i))
-        .filter(|cell| cell.hash == hash)
-        .map(|cell| cell.slot)
-        .nth(k)
+    // A plain loop: with `filter` and `nth` it is asked at each place where the memory's cells lie, which takes half as long again.
+    let mut seen = 0;
+    for i in 0..memory.len() {
+        let cell = at(memory, i);
+        if cell.hash == hash {
+            if seen == k {
+                return Some(cell.slot);
+            }
+            seen += 1;
+        }
+    }
+    None
 }
 
 impl<M: Memory<HashedIndex>> HashTable for LinearTable<M> {

@@ -3,7 +3,7 @@ use Rattle.std.proofs.Common.{◌≡◌, ℕ, zero, suc, ◌+◌, ◌%◌, ◌<�
 use Rattle.std.proofs.lemmas.List.{nil_from_length, length-append, length-take, length-drop, append-nil, map-append, drop-map, take-map}
 use Rattle.std.proofs.lemmas.Bool.{cases_lt, cases_eq, lt-ltb, le-ltb, eqb-true, eq-eqb, ne_eqb}
 use Rattle.hash_table.specs.Cells.{pair_of, held, holding, cell_moved}
-use Rattle.hash_table.specs.Pairs.{slots_of, moved}
+use Rattle.hash_table.specs.Pairs.{slots_of, moved, is_pair}
 use Rattle.hash_table.specs.declared.index.HashedIndex.{HashedIndex}
 use Rattle.base.specs.Counting.{one, times}
 use Rattle.base.proofs.Counts.{times_all}
@@ -195,6 +195,16 @@ slots_probed n xs h p len is_p = ⊎_elim many none (cases_lt 0 n)
         let z : n ≡ 0 = omega arith in
         let short : length (rotated xs p) ≡ 0 = simp (length-append, length-drop, length-take) (omega arith) in
         ap (λ cs. slots_of h (kept (answers h) cs)) (nil_from_length (rotated xs p) short) ∙ sym (ap (λ m. slots_of h (homes n xs m)) z)
+
+-- the pairs of a hash and a slot are counted by the slots of the hash
+pub times_slots : (h s : ℕ) (ps : List (ℕ × ℕ)) → times (is_pair h s) ps ≡ times (λ v. eqb v s) (slots_of h ps)
+times_slots h s [] = refl
+times_slots h s (p ∷ ps) = by (eqb p.0 h) (times_slots h s ps)
+  where
+    by : (b : Bool) → times (is_pair h s) ps ≡ times (λ v. eqb v s) (slots_of h ps)
+        → one (b && eqb p.1 s) + times (is_pair h s) ps ≡ times (λ v. eqb v s) (cond b (p.1 ∷ slots_of h ps) (slots_of h ps))
+    by true r = omega arith
+    by false r = omega arith
 
 -- those with other slots
 module _ (places : List ℕ) where

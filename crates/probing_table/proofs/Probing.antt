@@ -1,5 +1,5 @@
 -- A probe from the home of a hash: the cells in its order, and what those tell that it does not read.
-use Rattle.std.proofs.Common.{◌≡◌, ℕ, suc, ◌+◌, ◌-◌, ◌%◌, ◌<◌, ◌≤◌, Bool, true, false, cond, ◌&&◌, not, eqb, List, [], ◌∷◌, map, length, get_or, take, Option, Some, None, slice_get, sym, refl, ap, ◌∙◌, MatchOption, IsSomeAnd, subst, inl, inr, arith}
+use Rattle.std.proofs.Common.{◌≡◌, ℕ, zero, suc, ◌+◌, ◌-◌, ◌%◌, ◌<◌, ◌≤◌, Bool, true, false, cond, ◌&&◌, not, eqb, List, [], ◌∷◌, map, length, get_or, take, Option, Some, None, slice_get, sym, refl, ap, ◌∙◌, MatchOption, subst, inl, inr, arith}
 use Rattle.std.proofs.lemmas.List.{get_or_past}
 use Rattle.std.proofs.lemmas.List.FromFn.{fill_by_all}
 use Rattle.std.proofs.lemmas.Bool.{cases_Bool, cases_lt, eqb-true, and_parts, and_from, both_ways, not-true, not-false}
@@ -105,25 +105,48 @@ all_held n xs p len low all =
     (λ k l. ap (holding (λ _. true)) (met_rotated n xs p len k (omega arith) (omega arith)) ∙ pass (met n xs p k) (all k (omega arith)))
     ∙ m
 
--- a step that was found, and its place
-pub placed : (A : Type 0) (B : ℕ → Type 0) (post is : ℕ → ℕ → Type 0) (r s : Option ℕ) → MatchOption r (s ≡ None) (λ j. IsSomeAnd s (post j))
-    → ((j i : ℕ) → post j i → is j i) → MatchOption r A (λ j. (i : ℕ) → is j i → B i) → MatchOption s A B
-placed A B post is None s e told found = subst (λ t. MatchOption t A B) (sym e) found
-placed A B post is (Some j) None e told found = absurd e
-placed A B post is (Some j) (Some i) e told found = found i (told j i e)
+map_twice : (f : ℕ → HashedIndex) (g : ℕ → ℕ) (js : List ℕ) → map f (map g js) ≡ map (λ j. f (g j)) js
+map_twice f g [] = refl
+map_twice f g (j ∷ js) = ap (λ cs. f (g j) ∷ cs) (map_twice f g js)
+
+-- the first of the places f a, f (a + 1) and so on, up to f b, that passes
+abbrev FirstOf : (ℕ → Bool) → (ℕ → ℕ) → ℕ → ℕ → Option ℕ → Type 0
+FirstOf q f a b r =
+    MatchOption r ((k : ℕ) → a ≤ k → k < b → q (f k) ≡ false) (λ i. (j : ℕ) × (a ≤ j) × (j < b) × (i ≡ f j) × (q i ≡ true) × ((k : ℕ) → a ≤ k → k < j → q (f k) ≡ false))
+
+from_here : (q : ℕ → Bool) (f : ℕ → ℕ) (a b : ℕ) → q (f a) ≡ false → ((k : ℕ) → a + 1 ≤ k → k < b → q (f k) ≡ false) → (k : ℕ) → a ≤ k → k < b → q (f k) ≡ false
+from_here q f a b t w k l m =
+    elim (cases_lt a k) [ inl s ↦ w k (omega arith) m | inr s ↦ let z : k ≡ a = omega arith in ap (λ i. q (f i)) z ∙ t ]
+
+first_more : (q : ℕ → Bool) (f : ℕ → ℕ) (a b : ℕ) (r : Option ℕ) → q (f a) ≡ false → FirstOf q f (a + 1) b r → FirstOf q f a b r
+first_more q f a b None t none = from_here q f a b t none
+first_more q f a b (Some i) t first = (first.0, omega (arith, first.1), first.2, first.3, first.4, from_here q f a first.0 t first.5)
+
+find_first : (q : ℕ → Bool) (f : ℕ → ℕ) (a n : ℕ) (r : Option ℕ) → r ≡ find q (map f (range_with_len a n)) → FirstOf q f a (a + n) r
+find_first q f a zero None e = λ k l m. absurd (omega arith)
+find_first q f a zero (Some i) e = absurd (none_some (sym e))
+find_first q f a (suc n) r e = by (q (f a)) refl e (find_first q f (a + 1) n r)
+  where
+    by : (b : Bool) → q (f a) ≡ b → r ≡ cond b (Some (f a)) (find q (map f (range_with_len (a + 1) n)))
+        → (r ≡ find q (map f (range_with_len (a + 1) n)) → FirstOf q f (a + 1) ((a + 1) + n) r) → FirstOf q f a (a + suc n) r
+    by true t w rest = subst (FirstOf q f a (a + suc n)) (sym w) (a, omega arith, omega arith, refl, t, λ k l m. absurd (omega arith))
+    by false t w rest = first_more q f a (a + suc n) r t (subst (λ b. FirstOf q f (a + 1) b r) (omega arith) (rest w))
 
 -- a probe for h from its home p, of m steps
 module _ (n : ℕ) (xs : List HashedIndex) (h p m : ℕ) (laid : Laid n xs) (low : p ≤ m - 1) (home : 0 < m → p ≡ h % m) (all : m ≡ n) where
   is_p : 0 < n → p ≡ h % n
   is_p l = home (omega arith) ∙ ap (λ k. h % k) all
 
-  at_step : (i j : ℕ) → (p ≤ m → i ≡ spot m p j) → spot n p j ≡ i
-  at_step i j e = sym (e (omega arith) ∙ ap (λ k. spot k p j) all)
-
   cells_met : map (met n xs p) (range_with_len 0 m) ≡ rotated xs p
   cells_met =
       sym
       (fill_by_all (met n xs p) (rotated xs p) m empty_cell (length_rotated n xs p laid.0 (omega arith) ∙ sym all) (λ k l. met_rotated n xs p laid.0 k (omega arith) (omega arith)))
+
+  cells_there : map (cell_at xs) (map (spot m p) (range_with_len 0 m)) ≡ rotated xs p
+  cells_there =
+      map_twice (cell_at xs) (spot m p) (range_with_len 0 m)
+      ∙ ap (λ k. map (λ j. cell_at xs (spot k p j)) (range_with_len 0 m)) all
+      ∙ cells_met
 
   closed : (t : HashedIndex → Bool) → ((x : HashedIndex) → t x ≡ true → answers h x ≡ true) → Closed t (rotated xs p)
   closed t has j k le lt empty pass =
@@ -142,32 +165,44 @@ module _ (n : ℕ) (xs : List HashedIndex) (h p m : ℕ) (laid : Laid n xs) (low
       ∙ ap (λ l. slice_get l k) (slots_filtered h (rotated xs p) ∙ slots_probed n xs h p laid.0 is_p)
 
   pub place_met : (s : ℕ) (r : Option ℕ)
-      → r ≡ find (λ j. holding (is_pair h s) (met n xs p j)) (take (prefix_len (λ j. not (vacant (met n xs p j))) (range_with_len 0 m)) (range_with_len 0 m))
-      → MatchOption r (Absent n xs h s) (λ j. (i : ℕ) → (p ≤ m → i ≡ spot m p j) → Stands n xs h s i)
+      → r
+      ≡ find
+      (λ i. holding (is_pair h s) (cell_at xs i))
+      (take (prefix_len (λ i. not (vacant (cell_at xs i))) (map (spot m p) (range_with_len 0 m))) (map (spot m p) (range_with_len 0 m)))
+      → MatchOption r (Absent n xs h s) (Stands n xs h s)
   place_met s None e =
       let q = holding (is_pair h s) in
       times_probed n xs laid.0 (is_pair h s)
       ∙ sym (times_rotated q xs p)
-      ∙ sym (ap (times q) cells_met)
-      ∙ find_before q (met n xs p) (range_with_len 0 m) (subst (Closed q) (sym cells_met) (closed q (λ x t. (holds_parts h s x t).1))) (sym e)
-  place_met s (Some j) e =
-      let steps = range_with_len 0 m in
-      let a = holds_parts h s (met n xs p j) (find_passes (λ k. holding (is_pair h s) (met n xs p k)) (take (prefix_len (λ k. not (vacant (met n xs p k))) steps) steps) j (sym e)) in
-      λ i is. subst (Stands n xs h s) (at_step i j is) (omega (arith, held_there xs (spot n p j) a.0, laid.0), a.0, a.2)
+      ∙ sym (ap (times q) cells_there)
+      ∙ find_before q (cell_at xs) (map (spot m p) (range_with_len 0 m)) (subst (Closed q) (sym cells_there) (closed q (λ x t. (holds_parts h s x t).1))) (sym e)
+  place_met s (Some i) e =
+      let places = map (spot m p) (range_with_len 0 m) in
+      let a = holds_parts h s (cell_at xs i) (find_passes (λ k. holding (is_pair h s) (cell_at xs k)) (take (prefix_len (λ k. not (vacant (cell_at xs k))) places) places) i (sym e)) in
+      (omega (arith, held_there xs i a.0, laid.0), a.0, a.2)
 
-  pub free_met : (r : Option ℕ)
-      → MatchOption r ((k : ℕ) → 0 ≤ k → k < m → false ≡ not (held (met n xs p k))) (λ j. (0 ≤ j) × (j < m) × (true ≡ not (held (met n xs p j))) × ((k : ℕ) → 0 ≤ k → k < j → false ≡ not (held (met n xs p k))))
-      → MatchOption r (Full n xs) (λ j. (i : ℕ) → (p ≤ m → i ≡ spot m p j) → Free n xs h i)
-  free_met None full = all_held n xs p laid.0 (omega arith) (λ k l. not-false _ (sym (full k (omega arith) (omega arith))))
-  free_met (Some j) free =
-      let home_n : p ≡ h % n = is_p (omega (arith, free.1)) in
-      λ i is.
-      subst
-      (Free n xs h)
-      (at_step i j is) (
-        j,
-        omega (arith, free.1),
-        ap (λ q. spot n q j) home_n,
-        not-true _ (sym free.2),
-        λ k l. ap (λ q. held (met n xs q k)) (sym home_n) ∙ not-false _ (sym (free.3 k (omega arith) l)),
+  free_first : (r : Option ℕ) → FirstOf (λ i. not (held (cell_at xs i))) (spot m p) 0 m r → MatchOption r (Full n xs) (Free n xs h)
+  free_first None full =
+      all_held
+      n
+      xs
+      p
+      laid.0
+      (omega arith)
+      (λ k l. ap (λ z. held (cell_at xs (spot z p k))) (sym all) ∙ not-false _ (full k (omega arith) (omega arith)))
+  free_first (Some i) free =
+      let home_n : p ≡ h % n = is_p (omega (arith, free.2)) in (
+        free.0,
+        omega (arith, free.2),
+        free.3 ∙ ap (λ z. spot z p free.0) all ∙ ap (λ q. spot n q free.0) home_n,
+        not-true _ free.4,
+        λ k l.
+            ap (λ q. held (met n xs q k)) (sym home_n)
+            ∙ ap (λ z. held (cell_at xs (spot z p k))) (sym all)
+            ∙ not-false _ (free.5 k (omega arith) l),
       )
+
+  pub free_met : (r : Option ℕ) → r ≡ find (λ i. not (held (cell_at xs i))) (map (spot m p) (range_with_len 0 m)) → MatchOption r (Full n xs) (Free n xs h)
+  free_met r e =
+      let q = λ (i : ℕ). not (held (cell_at xs i)) in
+      free_first r (subst (λ b. FirstOf q (spot m p) 0 b r) (omega arith) (find_first q (spot m p) 0 m r e))

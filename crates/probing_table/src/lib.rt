@@ -60,8 +60,8 @@ fn free_place<M: Memory<HashedIndex>>(memory: &M, hash: u64) -> Option<usize>
     let n = memory.capacity();
     let start = home(hash, n);
     (0..n)
-        .find(|&j| is_free(met(memory, start, j)))
         .map(|j| spot(start, j, n))
+        .find(|&place| is_free(at(memory, place)))
 }
 
 // A place of the pair.
@@ -71,10 +71,11 @@ fn place_of<M: Memory<HashedIndex>>(memory: &M, hash: u64, slot: u32) -> Option<
 {
     let n = memory.capacity();
     let start = home(hash, n);
+    // Each place is worked out once, for both tests and the answer.
     (0..n)
-        .take_while(|&j| !is_vacant(met(memory, start, j)))
-        .find(|&j| holds_pair(met(memory, start, j), hash, slot))
         .map(|j| spot(start, j, n))
+        .take_while(|&place| !is_vacant(at(memory, place)))
+        .find(|&place| holds_pair(at(memory, place), hash, slot))
 }
 
 // The slot of pair k, from 0, among those with the hash.

@@ -1,21 +1,51 @@
-use Rattle.std.proofs.Common.{◌≡◌, eqb, ap, ◌∙◌, rules, tests, arith}
-use Rattle.std.specs.Iterator.Adapters.{map_source, map_callee, filter_source, filter_callee}
-use Rattle.std.proofs.lemmas.Iterator.{YieldsList-from_range, YieldsList-from_map}
-use Rattle.std.proofs.lemmas.Iterator.Consumers.{YieldsList-from_filter, nth_from_yields_List}
-use Rattle.hash_table.specs.Cells.{cell_at}
-use Rattle.hash_table.proofs.Celled.{nth_told, candidate_of_cells}
+use Rattle.std.proofs.Common.{◌-◌, ap, arith}
+use Rattle.hash_table.specs.Cells.{pairs_of}
+use Rattle.hash_table.specs.Pairs.{candidate}
+use Rattle.hash_table.proofs.Walking.{here, next, past, ends}
 use Rattle.hash_table.proofs.linear.candidate_in.Goals as goal
+use Rattle.hash_table.proofs.linear.candidate_in.Goals.{then-cell-hash+else-seen-k, else-cell-hash}
+
+pub loop-i-init : goal.loop-i-init
+loop-i-init g c = (
+  omega arith,
+  ap (candidate (pairs_of (g.M.Memory.items c.args.memory.now)) c.args.hash) (omega arith),
+)
+
+pub returns-then-seen-k : goal.returns-then-seen-k
+returns-then-seen-k g c =
+    here
+    (g.M.Memory.items c.args.memory.now)
+    c.loop-i.i
+    c.args.hash
+    c.args.k
+    (c.args.k - c.loop-i.seen)
+    c.loop-i.invariant.1
+    c.at-cell.result
+    (omega arith)
+    c.at-cell.ensures
+    c.if-cell-hash.true
+    (omega arith)
+
+pub loop-i-preserved : goal.loop-i-preserved
+loop-i-preserved g c =
+    let xs = g.M.Memory.items c.args.memory.now in
+    let i = c.loop-i.i in
+    let h = c.args.hash in
+    let k = c.args.k in
+    let left = k - c.loop-i.seen in
+    let left_After = k - c.if-cell-hash.seen in
+    elim
+    c.if-cell-hash.branch [
+      | then-cell-hash+else-seen-k w ↦ (
+        omega (arith, w.seen-is),
+        next xs i h k left c.loop-i.invariant.1 c.at-cell.result (omega arith) c.at-cell.ensures left_After w.if-cell-hash.true (omega (arith, w.seen-is)),
+      )
+      | else-cell-hash w ↦ (
+        omega (arith, w.seen-is),
+        past xs i h k left c.loop-i.invariant.1 c.at-cell.result (omega arith) c.at-cell.ensures left_After w.if-cell-hash.false (omega (arith, w.seen-is)),
+      )
+    ]
 
 pub returns : goal.returns
 returns g c =
-    let xs = g.M.Memory.items c.args.memory.now in
-    let n = c.len.result in
-    let cells : filter_source (map_source c.map-2.result) ≡ c.map.result = cc in
-    nth_told c.nth.result
-    (nth_from_yields_List c.nth.result c.nth.new.self c.args.k c.nth.ensures.ran
-    (YieldsList-from_map _ (λ x. x.slot)
-    (YieldsList-from_filter _ (λ x. eqb x.hash c.args.hash)
-    (YieldsList-from_map _ (cell_at xs) (YieldsList-from_range 0 n n (cc) (omega arith)) (ap map_callee cells ∙ c.map.ensures.closure) (λ x r q k. search (rules, tests)))
-    (ap filter_callee c.map-2.ensures.source ∙ c.filter.ensures.closure) (λ x r q k. search (rules, tests)))
-    c.map-2.ensures.closure (λ x r q k. search (rules, tests))))
-    ∙ candidate_of_cells c.args.hash c.args.k xs n c.len.ensures.count
+    ends (g.M.Memory.items c.args.memory.now) c.loop-i.i c.args.hash c.args.k (c.args.k - c.loop-i.seen) c.loop-i.invariant.1 (omega arith)
