@@ -1,10 +1,9 @@
 -- A line ends in words: whatever was taken off its front, the calls that are left give some words and then none. So a few words say
 -- what a line says, and the others need not be looked at.
-use Rattle.std.proofs.Common.{◌≡◌, ℕ, zero, suc, ◌<◌, ◌≤◌, Bool, true, false, cond, ◌&&◌, List, [], ◌∷◌, ◌++◌, length, Option, Some, None, Result, Ok, Err, refl, sym, ap, ◌∙◌, subst, append_assoc, arith}
-use Rattle.std.proofs.lemmas.Bool.{not-true}
+use Rattle.std.proofs.Common.{◌≡◌, ℕ, zero, suc, ◌<◌, ◌≤◌, Bool, true, false, cond, List, [], ◌∷◌, ◌++◌, length, Option, Some, None, Result, Ok, Err, refl, sym, ap, ◌∙◌, subst, append_assoc, arith}
+use Rattle.std.proofs.lemmas.Bool.{and_parts, not-true}
 use Rattle.std.proofs.lemmas.List.{append-nil, length-append}
 use Rattle.std.proofs.lemmas.Str.{encodes-append, IsUtf8-past_char, length-encode, len_utf8_bounds}
-use lib.Dec.{T}
 use Rattle.std.proofs.Math.Utf8.{scalar, scalars, encode, encodes}
 use Rattle.std.specs.Prelude.{⊤, ◌==◌, slice_index}
 use Rattle.std.specs.Borrow.{Bor}
@@ -17,10 +16,6 @@ use Rattle.agree.specs.declared.reading.Line.{Line}
 use Rattle.agree.specs.declared.reading.ReadError.{ReadError}
 use Rattle.agree.specs.declared.reading.ReadError.TheVariants as error
 use Rattle.agree.specs.Reading.{Words, blank, texts, hash, is_remark, named, behind, or_expected, read_words, IsWordsOf, Reads, ReadsLine}
-
-both : (x y : Bool) → (x && y) ≡ true → (x ≡ true) × (y ≡ true)
-both true y e = (refl, e)
-both false y e = absurd (subst T (sym e) tt)
 
 abbrev Starts : (ℕ → Bool) → List ℕ → Type 0
 Starts p [] = ⊤
@@ -37,7 +32,7 @@ record Cut (p : ℕ → Bool) (cs : List ℕ) : Type 0 where
 
 cut : (p : ℕ → Bool) (cs : List ℕ) → scalars cs ≡ true → Cut p cs
 cut p [] u = record { front = []; rest = []; is = refl; none = tt; starts = tt; scalar = refl }
-cut p (c ∷ cs) u = by (cut p cs (both (scalar c) (scalars cs) u).1) (p c) refl
+cut p (c ∷ cs) u = by (cut p cs (and_parts (scalar c) (scalars cs) u).1) (p c) refl
   where
     by : Cut p cs → (b : Bool) → p c ≡ b → Cut p (c ∷ cs)
     by k true e = record { front = []; rest = c ∷ cs; is = refl; none = tt; starts = e; scalar = u }
@@ -46,7 +41,7 @@ cut p (c ∷ cs) u = by (cut p cs (both (scalar c) (scalars cs) u).1) (p c) refl
 
 begins : (cs : List ℕ) → scalars cs ≡ true → Starts is_whitespace cs → (more : List ℕ) × EmptyOrStartsWithPassing is_whitespace (encodes cs) more
 begins [] u s = ([], λ l. absurd (omega (arith, l)))
-begins (c ∷ cs) u s = (encodes cs, λ l. (c, s, refl, (both (scalar c) (scalars cs) u).0))
+begins (c ∷ cs) u s = (encodes cs, λ l. (c, s, refl, (and_parts (scalar c) (scalars cs) u).0))
 
 abbrev Drained : SplitWhitespace → Type 0
 Drained s = (ws : Words) × DrainsIf split_whitespace_steps ⊤ s ws
@@ -63,7 +58,7 @@ drained (suc m) cs s l u e = let g = cut is_not_whitespace cs u in by (drained m
     by : ((ds : List ℕ) (t : SplitWhitespace) → length ds ≤ m → scalars ds ≡ true → encodes ds ≡ split_whitespace_rest t → Drained t) → (gap rest : List ℕ) → cs ≡ gap ++ rest → NonePass is_not_whitespace gap → Starts is_not_whitespace rest → scalars rest ≡ true → Drained s
     by again gap [] is none starts v = no_word gap s none (ap encodes (sym (is ∙ append-nil gap)) ∙ e)
     by again gap (c ∷ tail) is none starts v =
-        let k = cut is_whitespace tail (both (scalar c) (scalars tail) v).1 in
+        let k = cut is_whitespace tail (and_parts (scalar c) (scalars tail) v).1 in
         let x : Bor (List ℕ) = record { ref_ptr = s.rest.ref_ptr; now = encodes (c ∷ k.front) } in
         let t : SplitWhitespace = record { rest = record { ref_ptr = s.rest.ref_ptr; now = encodes k.rest } } in
         let whole : cs ≡ gap ++ ((c ∷ k.front) ++ k.rest) = is ∙ ap (λ v. gap ++ (c ∷ v)) k.is in
@@ -89,7 +84,7 @@ others : (s : SplitWhitespace) → IsUtf8 (split_whitespace_rest s) → Drained 
 others s u = drained (length u.0) u.0 s (omega arith) u.1.0 u.1.1
 
 -- three calls behind a name tell what the line says
-pub three : (name : List ℕ) (s t u v : SplitWhitespace) (a b c : Option (Bor (List ℕ))) → split_whitespace_steps s a t → split_whitespace_steps t b u → split_whitespace_steps u c v → IsUtf8 (split_whitespace_rest s)
+three : (name : List ℕ) (s t u v : SplitWhitespace) (a b c : Option (Bor (List ℕ))) → split_whitespace_steps s a t → split_whitespace_steps t b u → split_whitespace_steps u c v → IsUtf8 (split_whitespace_rest s)
     → (ws : Words) × DrainsIf split_whitespace_steps ⊤ s ws × (named name (texts ws) ≡ named name (behind a b c))
 three name s t u v None b c p q r w = ([], (s, refl, λ _. (t, p)), refl)
 three name s t u v (Some x) None c p q r w = (x ∷ [], (t, (t, p, refl), λ _. (u, q)), refl)

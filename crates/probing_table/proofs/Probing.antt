@@ -2,6 +2,7 @@
 use Rattle.std.proofs.Common.{◌≡◌, ℕ, zero, suc, ◌+◌, ◌-◌, ◌%◌, ◌<◌, ◌≤◌, Bool, true, false, cond, ◌&&◌, not, eqb, List, [], ◌∷◌, map, length, get_or, take, Option, Some, None, slice_get, sym, refl, ap, ◌∙◌, MatchOption, subst, inl, inr, arith}
 use Rattle.std.proofs.lemmas.List.{get_or_past}
 use Rattle.std.proofs.lemmas.List.FromFn.{fill_by_all}
+use Rattle.std.proofs.lemmas.Simd.{map-map}
 use Rattle.std.proofs.lemmas.Bool.{cases_Bool, cases_lt, eqb-true, and_parts, and_from, both_ways, not-true, not-false}
 use Rattle.std.specs.List.{range_with_len, prefix_len, filter, find}
 use Rattle.hash_table.specs.Cells.{pair_of, held, holding, cell_at, empty_cell}
@@ -105,10 +106,6 @@ all_held n xs p len low all =
     (λ k l. ap (holding (λ _. true)) (met_rotated n xs p len k (omega arith) (omega arith)) ∙ pass (met n xs p k) (all k (omega arith)))
     ∙ m
 
-map_twice : (f : ℕ → HashedIndex) (g : ℕ → ℕ) (js : List ℕ) → map f (map g js) ≡ map (λ j. f (g j)) js
-map_twice f g [] = refl
-map_twice f g (j ∷ js) = ap (λ cs. f (g j) ∷ cs) (map_twice f g js)
-
 -- the first of the places f a, f (a + 1) and so on, up to f b, that passes
 abbrev FirstOf : (ℕ → Bool) → (ℕ → ℕ) → ℕ → ℕ → Option ℕ → Type 0
 FirstOf q f a b r =
@@ -144,7 +141,7 @@ module _ (n : ℕ) (xs : List HashedIndex) (h p m : ℕ) (laid : Laid n xs) (low
 
   cells_there : map (cell_at xs) (map (spot m p) (range_with_len 0 m)) ≡ rotated xs p
   cells_there =
-      map_twice (cell_at xs) (spot m p) (range_with_len 0 m)
+      map-map (cell_at xs) (spot m p) (range_with_len 0 m)
       ∙ ap (λ k. map (λ j. cell_at xs (spot k p j)) (range_with_len 0 m)) all
       ∙ cells_met
 
